@@ -1,0 +1,101 @@
+ghost use Rattle.std.specs.Prelude.{None, ◌≡◌};
+ghost use Rattle.std.specs.Io.{ReadsAtMost, WritesAtMost};
+ghost use Rattle.sat_devices.specs.Faults.{Faults};
+
+use sat_base::{Given, Link, Outside, Sink, Source, Taken};
+use std::io;
+use std::io::{ErrorKind, Read, Write};
+use std::marker::Model;
+
+/// A console over a reader and a writer, as standard input and output. Contracts see its counts of faults.
+#[derive(Drop)]
+pub struct Console<R: Read + Drop, W: Write + Drop> {
+    input: R,
+    output: W,
+    read_faults: u64,
+    write_faults: u64,
+}
+
+impl<R: Read + Drop, W: Write + Drop> Model for Console<R, W> {
+    ghost Value = { Faults };
+
+    ghost view = { λ c. record { reads = c.read_faults; writes = c.write_faults } };
+}
+
+impl<R: Read + Drop, W: Write + Drop> Console<R, W> {
+    /// A console that has met no fault.
+    pub fn new(input: R, output: W) -> Self
+        ensures { result ≡ record { reads = 0; writes = 0 } }
+    {
+        Console {
+            input,
+            output,
+            read_faults: 0,
+            write_faults: 0,
+        }
+    }
+}
+
+// Reads once. A read that a signal interrupted has taken nothing, and is made again.
+fn read_once<R: Read>(input: &mut R, buf: &mut [u8]) -> io::Result<usize>
+    ensures { ReadsAtMost result buf.new }
+{
+    for _ in 0..u64::MAX {
+        match input.read(buf) {
+            Err(e) if e.kind() == ErrorKind::Interrupted => {}
+            done => return done,
+        }
+    }
+    Err(io::Error::from(ErrorKind::Interrupted))
+}
+
+// Writes once. A write that a signal interrupted has given nothing, and is made again.
+fn write_once<W: Write>(output: &mut W, piece: &[u8]) -> io::Result<usize>
+    ensures { WritesAtMost result piece.now }
+{
+    for _ in 0..u64::MAX {
+        match output.write(piece) {
+            Err(e) if e.kind() == ErrorKind::Interrupted => {}
+            done => return done,
+        }
+    }
+    Err(io::Error::from(ErrorKind::Interrupted))
+}
+
+impl<R: Read + Drop, W: Write + Drop> Outside for Console<R, W> {
+    ghost left = { λ c. None };
+
+    ghost written = { λ c. None };
+
+    ghost read_faults = { λ c. c.reads };
+
+    ghost write_faults = { λ c. c.writes };
+}
+
+impl<R: Read + Drop, W: Write + Drop> Source for Console<R, W> {
+    fn read(&mut self, buf: &mut [u8]) -> Taken {
+        match read_once(&mut self.input, buf) {
+            Ok(0) => Taken::End,
+            Ok(count) => Taken::Count(count),
+            Err(_) => {
+                self.read_faults = self.read_faults.saturating_add(1);
+                Taken::Failed
+            }
+        }
+    }
+}
+
+impl<R: Read + Drop, W: Write + Drop> Sink for Console<R, W> {
+    fn put(&mut self, piece: &[u8]) -> Given {
+        match write_once(&mut self.output, piece) {
+            // A writer that takes nothing of a piece that isn't empty will take nothing more.
+            Ok(0) | Err(_) => {
+                self.write_faults = self.write_faults.saturating_add(1);
+                Given::Failed
+            }
+            Ok(count) => Given::Count(count),
+        }
+    }
+}
+
+impl<R: Read + Drop, W: Write + Drop> Link for Console<R, W> {}

@@ -1,0 +1,5 @@
+mod faults;
+mod lines;
+mod parts;
+mod samples;
+mod words;

@@ -1,0 +1,5 @@
+pub mod Streams
+pub mod Cut
+pub mod Words
+pub mod Runs
+pub mod Once

@@ -1,0 +1,15 @@
+//! The commands of the satellite, from their words to their status.
+#![tactic(auto)]
+
+mod answer;
+mod command;
+mod lines;
+mod parse;
+mod settle;
+mod status;
+mod stream;
+mod top;
+
+pub use command::{Command, LineErr, read_line};
+pub use status::Status;
+pub use top::{Ended, World, satellite};

@@ -1,0 +1,4 @@
+pub mod Place
+pub mod Rows
+pub mod Refusals
+pub mod Settle
