@@ -17,8 +17,8 @@ asked_parts (Some node) (Some moment) (Ok order) =
 asked_parts _ _ _ = None
 
 abbrev pub with_moment : Option ℕ → Option (List ℕ × List ℕ) → Option Asked
-with_moment node None = None
-with_moment node (Some p) = asked_parts node (number_of p.0) (decode_of p.1)
+with_moment first None = None
+with_moment first (Some p) = asked_parts first (number_of p.0) (decode_of p.1)
 
 abbrev pub with_node : Option (List ℕ × List ℕ) → Option Asked
 with_node None = None

@@ -1,0 +1,73 @@
+/* A plain table-driven encoder, to compare with: each byte of a parity row is the sum of the data rows'
+ * bytes times their weights, one look-up each. It prints the check sum of the parity rows and, in seconds,
+ * how long one round took on average.
+ *
+ *     plain_coding K N ROW ROUNDS
+ */
+#include <stdint.h>
+#include <stdio.h>
+#include <stdlib.h>
+#include <string.h>
+#include <time.h>
+
+static uint8_t product[256][256];
+
+static uint8_t times(uint8_t a, uint8_t b) {
+    unsigned sum = 0, shifted = a;
+    for (int bit = 0; bit < 8; bit++) {
+        if (b >> bit & 1) sum ^= shifted;
+        shifted <<= 1;
+        if (shifted & 256) shifted ^= 0x11d;
+    }
+    return (uint8_t)sum;
+}
+
+static uint8_t inverse(uint8_t a) {
+    for (int b = 1; b < 256; b++)
+        if (product[a][b] == 1) return (uint8_t)b;
+    return 0;
+}
+
+static uint8_t weight(int k, int row, int index) {
+    uint8_t above = 1, below = 1;
+    for (int other = 0; other < k; other++) {
+        if (other == row) continue;
+        above = product[above][index ^ other];
+        below = product[below][row ^ other];
+    }
+    return product[above][inverse(below)];
+}
+
+int main(int argc, char **argv) {
+    if (argc != 5) return 2;
+    int k = atoi(argv[1]), n = atoi(argv[2]);
+    size_t row = strtoul(argv[3], 0, 10);
+    int rounds = atoi(argv[4]);
+    for (int a = 0; a < 256; a++)
+        for (int b = 0; b < 256; b++) product[a][b] = times((uint8_t)a, (uint8_t)b);
+    uint8_t *data = malloc(k * row), *out = malloc(row);
+    if (!data || !out) return 9;
+    uint32_t state = 1;
+    for (size_t i = 0; i < k * row; i++) {
+        state = state * 1664525 + 1013904223;
+        data[i] = (uint8_t)(state >> 24);
+    }
+    uint64_t sum = 0;
+    struct timespec start, end;
+    clock_gettime(CLOCK_MONOTONIC, &start);
+    for (int round = 0; round < rounds; round++) {
+        sum = 0;
+        for (int index = k; index < n; index++) {
+            memset(out, 0, row);
+            for (int i = 0; i < k; i++) {
+                const uint8_t *table = product[weight(k, i, index)], *from = data + i * row;
+                for (size_t c = 0; c < row; c++) out[c] ^= table[from[c]];
+            }
+            for (size_t c = 0; c < row; c++) sum += out[c];
+        }
+    }
+    clock_gettime(CLOCK_MONOTONIC, &end);
+    double seconds = (end.tv_sec - start.tv_sec) + (end.tv_nsec - start.tv_nsec) * 1e-9;
+    printf("%llu %.9f\n", (unsigned long long)sum, seconds / rounds);
+    return 0;
+}
