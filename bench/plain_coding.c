@@ -2,7 +2,7 @@
  * bytes times their weights, one look-up each. It prints the check sum of the parity rows and, in seconds,
  * how long one round took on average.
  *
- *     plain_coding K N ROW ROUNDS
+ *     plain_coding K N ROW STRIPES ROUNDS
  */
 #include <stdint.h>
 #include <stdio.h>
@@ -39,16 +39,16 @@ static uint8_t weight(int k, int row, int index) {
 }
 
 int main(int argc, char **argv) {
-    if (argc != 5) return 2;
+    if (argc != 6) return 2;
     int k = atoi(argv[1]), n = atoi(argv[2]);
-    size_t row = strtoul(argv[3], 0, 10);
-    int rounds = atoi(argv[4]);
+    size_t row = strtoul(argv[3], 0, 10), stripes = strtoul(argv[4], 0, 10), stripe = k * row;
+    int rounds = atoi(argv[5]);
     for (int a = 0; a < 256; a++)
         for (int b = 0; b < 256; b++) product[a][b] = times((uint8_t)a, (uint8_t)b);
-    uint8_t *data = malloc(k * row), *out = malloc(row);
+    uint8_t *data = malloc(stripe * stripes), *out = malloc(row * stripes);
     if (!data || !out) return 9;
     uint32_t state = 1;
-    for (size_t i = 0; i < k * row; i++) {
+    for (size_t i = 0; i < stripe * stripes; i++) {
         state = state * 1664525 + 1013904223;
         data[i] = (uint8_t)(state >> 24);
     }
@@ -58,12 +58,17 @@ int main(int argc, char **argv) {
     for (int round = 0; round < rounds; round++) {
         sum = 0;
         for (int index = k; index < n; index++) {
-            memset(out, 0, row);
-            for (int i = 0; i < k; i++) {
-                const uint8_t *table = product[weight(k, i, index)], *from = data + i * row;
-                for (size_t c = 0; c < row; c++) out[c] ^= table[from[c]];
+            const uint8_t *table[256];
+            for (int i = 0; i < k; i++) table[i] = product[weight(k, i, index)];
+            memset(out, 0, row * stripes);
+            for (size_t s = 0; s < stripes; s++) {
+                uint8_t *to = out + s * row;
+                for (int i = 0; i < k; i++) {
+                    const uint8_t *from = data + s * stripe + i * row;
+                    for (size_t c = 0; c < row; c++) to[c] ^= table[i][from[c]];
+                }
             }
-            for (size_t c = 0; c < row; c++) sum += out[c];
+            for (size_t c = 0; c < row * stripes; c++) sum += out[c];
         }
     }
     clock_gettime(CLOCK_MONOTONIC, &end);

@@ -1,7 +1,8 @@
-ghost use Rattle.std.specs.Prelude.{◌≡◌, ◌≤◌, ◌<◌, ◌↔◌, ℕ, List, Some, [], drop, length, min, IsTrue, Contains};
+ghost use Rattle.std.specs.Prelude.{◌≡◌, ◌≤◌, ◌<◌, ◌↔◌, ℕ, List, Some, [], drop, length, min};
 ghost use Rattle.sat_base.specs.Outside.{with_front, with_end, taken, given, TakesWithin, GivesWithin, Counts, failed_read, failed_put, raised};
 ghost use Rattle.sat_base.specs.Console.{Console, FailsNext};
 
+use crate::calls::is_failing;
 use crate::{Given, Link, Outside, Sink, Source, Taken};
 use std::alloc::Global;
 use std::marker::Model;
@@ -32,15 +33,6 @@ impl Model for MemConsole {
     } };
 
     ghost invariant = { λ c. c.taken ≤ length c.input.items };
-}
-
-// Counts a call, and tells whether it is one of those that are to fail.
-fn is_failing(calls: &mut u64, failing: &[u64]) -> bool
-    ensures calls { calls.new ≡ raised calls.old }
-    ensures failing { IsTrue result ↔ Contains failing.now (raised calls.old) }
-{
-    *calls = calls.saturating_add(1);
-    failing.contains(calls)
 }
 
 impl MemConsole {

@@ -1,17 +1,34 @@
-//! What every crate of the satellite speaks of: ids, moments, command lines, want of memory, and the
-//! traits behind which the outside stands.
+//! What every crate of the satellite speaks of: ids, moments and months, schemes and settings, records
+//! and kept requests, lists, want of memory, and the traits behind which the outside stands.
 #![tactic(auto)]
 
+mod calls;
+mod clock;
 mod console;
 mod ids;
+mod items;
 mod line;
 mod memory;
 mod moment;
+mod month;
 mod outside;
+mod records;
+mod requests;
+mod scheme;
+mod settings;
+mod words;
 
+pub use clock::{Clock, MemClock};
 pub use console::MemConsole;
 pub use ids::{CustomerId, NodeId, SegId, Serial};
+pub use items::{Bytes, Indexes, Items, Share};
 pub use line::Line;
 pub use memory::NoMemory;
 pub use moment::Moment;
+pub use month::{Hour, Month, month_of, months_follow_moments};
 pub use outside::{Given, Link, Outside, Sink, Source, Taken};
+pub use records::{At, Containment};
+pub use requests::{Asked, Done, Kept, Offer, Place};
+pub use scheme::{Scheme, SchemeErr};
+pub use settings::{Caps, Customer, Marks, Settings};
+pub use words::{Drawn, MemWords, Words};

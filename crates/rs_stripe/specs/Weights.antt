@@ -1,0 +1,18 @@
+-- A share as a sum of the data bytes, each times a number that the data do not change.
+use Rattle.std.specs.Prelude.{◌≡◌, ℕ}
+use Rattle.gf256.specs.Field.{◌⊗◌, inverse}
+use Rattle.gf256.specs.Sums.{total}
+use Rattle.gf_linear.specs.Lagrange.{basis}
+use Rattle.rs_stripe.specs.Codeword.{share}
+
+-- what Lagrange's formula multiplies the value at point i by
+unfoldable pub weight : (ℕ → ℕ) → ℕ → ℕ → ℕ → ℕ
+weight X n i x = basis X n i x ⊗ inverse (basis X n i (X i))
+
+-- the sum of the first k data bytes, each times its weight
+abbrev pub weighted : ℕ → (ℕ → ℕ) → (ℕ → ℕ) → ℕ
+weighted k w d = total k (λ i. w i ⊗ d i)
+
+-- w are the weights of share x of k data bytes
+abbrev pub AreWeights : ℕ → ℕ → (ℕ → ℕ) → Type 0
+AreWeights k x w = (d : ℕ → ℕ) → share k d x ≡ weighted k w d
