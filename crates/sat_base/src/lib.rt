@@ -1,5 +1,5 @@
-//! What every crate of the satellite speaks of: ids, moments and months, schemes and settings, records
-//! and kept requests, lists, want of memory, and the traits behind which the outside stands.
+//! What every crate of the satellite speaks of: ids, moments and months, schemes and settings, records,
+//! kept requests and rates, lists, want of memory, and the traits behind which the outside stands.
 #![tactic(auto)]
 
 mod calls;
@@ -12,6 +12,7 @@ mod memory;
 mod moment;
 mod month;
 mod outside;
+mod rates;
 mod records;
 mod requests;
 mod scheme;
@@ -27,6 +28,7 @@ pub use memory::NoMemory;
 pub use moment::Moment;
 pub use month::{Hour, Month, month_of, months_follow_moments};
 pub use outside::{Given, Link, Outside, Sink, Source, Taken};
+pub use rates::{Rates, Tariff};
 pub use records::{At, Containment};
 pub use requests::{Asked, Done, Kept, Offer, Place};
 pub use scheme::{Scheme, SchemeErr};

@@ -2,6 +2,7 @@ ghost use Rattle.std.specs.Prelude.{◌≡◌};
 ghost use Rattle.settlement.specs.Place.{place};
 
 use order_limits::Action;
+use ordered_rows::Ranked;
 use sat_base::{Moment, NodeId, Serial};
 
 /// One settled order.
@@ -25,12 +26,13 @@ pub(crate) fn place_of(serial: Serial, node: NodeId) -> u128
     (serial.0 as u128) * (1 << 32) + node.0 as u128
 }
 
-impl SettledRow {
+/// By its serial and its node.
+impl Ranked for SettledRow {
     ghost use Rattle.settlement.specs.Rows.{key};
 
-    pub(crate) fn place(&self) -> u128
-        ensures { result ≡ key self.now }
-    {
+    ghost rank = { key };
+
+    fn rank(&self) -> u128 {
         place_of(self.serial, self.node)
     }
 }

@@ -1,12 +1,13 @@
-ghost use Rattle.std.specs.Prelude.{◌≡◌, ℕ, ◌<◌, ◌≤◌, ◌+◌, ◌-◌, ◌*◌, List, [], length, IsNone, IsSome, IfOk, IfErr, OnOk, OnErr, vec_capacity, vec_len, Ok, Err};
+ghost use Rattle.std.specs.Prelude.{◌≡◌, ℕ, ◌<◌, ◌≤◌, ◌+◌, ◌-◌, ◌*◌, List, [], length, IsNone, IsSome, IfOk, IfErr, OnOk, OnErr, Ok, Err};
 ghost use Rattle.std.specs.Option.{option_copied};
 ghost use Rattle.settlement.specs.Place.{place};
-ghost use Rattle.settlement.specs.Rows.{key, IsSorted, row_of, next_of, added, Kept, IsAt, IsGapFor};
+ghost use Rattle.settlement.specs.Rows.{key, row_of, next_of, added, Kept};
 ghost use Rattle.settlement.specs.Settle.{fresh, order_settlable, settlable, settled_as, rows_after, UnlessMemory, IfNew, IfSettled, IsRowOf, SettlesFirst, KeepsRows};
 
 use crate::answer::{Settlable, SettleErr, Settling};
 use crate::row::{SettledRow, place_of};
 use order_limits::{Keys, Order, read_order};
+use ordered_rows::Rows;
 use sat_base::{Moment, NoMemory, NodeId, Serial};
 use std::alloc::Global;
 use std::marker::Model;
@@ -20,16 +21,16 @@ const SETTLE_SECONDS: u64 = 172800;
 /// there is room. A look-up costs the logarithm of the rows; adding a row moves those behind it.
 #[derive(Drop)]
 pub struct Settled {
-    rows: Vec<SettledRow>,
+    rows: Rows<SettledRow>,
     cap: u32,
 }
 
 impl Model for Settled {
     ghost Value = { Kept };
 
-    ghost view = { λ s. record { rows = s.rows.items; cap = s.cap; spare = vec_capacity s.rows - vec_len s.rows } };
+    ghost view = { λ s. record { rows = s.rows.rows; cap = s.cap; spare = s.rows.spare } };
 
-    ghost invariant = { λ s. IsSorted s.rows.items × (length s.rows.items ≤ s.cap) };
+    ghost invariant = { λ s. length s.rows.rows ≤ s.cap };
 }
 
 impl Settled {
@@ -39,27 +40,16 @@ impl Settled {
         ensures cap { result.cap ≡ cap }
     {
         Settled {
-            rows: Vec::new(alloc),
+            rows: Rows::new(alloc),
             cap,
         }
-    }
-
-    // Where the row of a place stands, or where it would.
-    fn search(&self, at: u128) -> Result<usize, usize>
-        ensures found { IfOk result (IsAt self.now.rows at) }
-        ensures absent { IfErr result (IsGapFor self.now.rows at) }
-    {
-        self.rows.binary_search_by_key(&at, |row| row.place())
     }
 
     // The row of a serial and a node.
     fn row(&self, serial: Serial, node: NodeId) -> Option<&SettledRow>
         ensures { option_copied result ≡ row_of self.now.rows (place serial node) }
     {
-        match self.search(place_of(serial, node)) {
-            Ok(i) => Some(&self.rows[i]),
-            Err(_) => None,
-        }
+        self.rows.get(place_of(serial, node))
     }
 
     /// The first row above a serial and a node, or the first of all where none is named. None where there
@@ -68,11 +58,8 @@ impl Settled {
         ensures { option_copied result ≡ next_of self.now.rows after }
     {
         match after {
-            None => self.rows.get(0),
-            Some((serial, node)) => match self.search(place_of(serial, node)) {
-                Ok(i) => self.rows.get(i + 1),
-                Err(i) => self.rows.get(i),
-            },
+            None => self.rows.first(),
+            Some((serial, node)) => self.rows.after(place_of(serial, node)),
         }
     }
 
@@ -82,8 +69,7 @@ impl Settled {
         ensures rows { self.new.rows ≡ self.old.rows }
         ensures cap { self.new.cap ≡ self.old.cap }
     {
-        self.rows.reserve(1)?;
-        Ok(())
+        self.rows.reserve(1)
     }
 
     /// Adds a row for which there is room, below the cap, and whose serial and node have none. It takes no
@@ -96,8 +82,7 @@ impl Settled {
         ensures cap { self.new.cap ≡ self.old.cap }
         ensures spare { self.new.spare + 1 ≡ self.old.spare }
     {
-        let at = self.search(row.place()).unwrap_err();
-        self.rows.insert(at, row).unwrap();
+        self.rows.add(row);
     }
 
     // What an order answers whose serial and node have no row yet.

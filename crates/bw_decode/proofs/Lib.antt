@@ -1,0 +1,6 @@
+pub mod Welch
+pub mod Equations
+pub mod Locator
+pub mod Counts
+pub mod NearStripes
+pub mod Rounds

@@ -1,0 +1,12 @@
+use Rattle.std.proofs.Common.{◌≢◌, ◌<◌, subst, length, arith, slice_index}
+use Rattle.std.proofs.lemmas.Option.{IfSome_then}
+use Rattle.bw_decode.proofs.Rounds.{differs_there}
+use Rattle.bw_decode.proofs.answers.column_off.Goals as goal
+
+pub returns-clause-some : goal.returns-clause-some
+returns-clause-some c =
+    let row = c.encode_share.new.out in
+    IfSome_then c.find_difference.result c.find_difference.ensures.some
+    (λ place found. differs_there c.args.scheme.now.k c.args.scheme.now.share place c.args.stripe.now row c.args.answer.now
+    c.requires.whole c.encode_share.ensures (omega (arith, c.encode_share.auto.out, c.requires.share))
+    (subst (λ bytes. (place < length row) × (slice_index row place ≢ slice_index bytes place)) c.as_slice.ensures found))

@@ -1,0 +1,5 @@
+pub mod Near
+pub mod Room
+pub mod Equations
+pub mod Altered
+pub mod Answers

@@ -1,0 +1,3 @@
+pub mod Rated
+pub mod Numbered
+pub mod Known

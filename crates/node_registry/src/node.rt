@@ -1,0 +1,82 @@
+ghost use Rattle.std.specs.Prelude.{◌≡◌, ◌/◌};
+ghost use Rattle.node_registry.specs.Standing.{byte_of, is_counted, is_serving};
+
+use sat_base::{Moment, NodeId};
+
+/// How a node stands with the satellite.
+#[derive(Clone, Copy, Debug, PartialEq, Eq)]
+pub enum Status {
+    /// It takes new pieces and serves those that it has.
+    Active = 0,
+    /// Its score fell too low, and that is for good: none of its pieces counts.
+    Disqualified = 1,
+    /// It serves the pieces that it has until they are elsewhere, and takes no new ones.
+    Exiting = 2,
+    /// It has left.
+    Exited = 3,
+}
+
+impl Status {
+    /// The number that stands for it: 0 to 3, in the order above.
+    pub fn byte(self) -> u8
+        ensures { result ≡ byte_of self }
+    {
+        self as u8
+    }
+}
+
+/// A storage node.
+#[derive(Clone, Copy, Debug, PartialEq, Eq)]
+pub struct Node {
+    pub id: NodeId,
+    /// The address, IPv4.
+    pub addr: u32,
+    pub port: u16,
+    /// The bytes that it says are free.
+    pub free: u64,
+    /// When it joined.
+    pub joined: Moment,
+    /// What the audits weigh that it passed, in thousandths.
+    pub alpha: u32,
+    /// What the audits weigh that it failed, in thousandths.
+    pub beta: u32,
+    /// How many audits it passed. It stands still at 2^32 - 1.
+    pub passes: u32,
+    pub status: Status,
+}
+
+impl Node {
+    /// Whether its pieces count as healthy.
+    pub fn counts(&self) -> bool
+        ensures { result ≡ is_counted self.now.status }
+    {
+        match self.status {
+            Status::Disqualified | Status::Exited => false,
+            _ => true,
+        }
+    }
+
+    /// Whether it serves its pieces, and so is audited.
+    pub fn serves(&self) -> bool
+        ensures { result ≡ is_serving self.now.status }
+    {
+        match self.status {
+            Status::Active | Status::Exiting => true,
+            _ => false,
+        }
+    }
+}
+
+/// When an exited node left.
+#[derive(Clone, Copy, Debug, PartialEq, Eq)]
+pub struct Left {
+    pub node: NodeId,
+    pub at: Moment,
+}
+
+/// The subnet of an IPv4 address: its first three bytes, as a number.
+pub fn subnet(addr: u32) -> u32
+    ensures { result ≡ addr / 256 }
+{
+    addr >> 8
+}

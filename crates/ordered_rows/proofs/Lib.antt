@@ -1,0 +1,5 @@
+pub mod Search
+pub mod Rising
+pub mod Found
+pub mod Lengths
+pub mod Items

@@ -1,0 +1,3 @@
+pub mod ByIndex
+pub mod Chosen
+pub mod Offers

@@ -1,0 +1,3 @@
+pub mod TariffLemmas
+pub mod SheetLemmas
+pub mod StatementLemmas
