@@ -4,49 +4,14 @@ ghost use Rattle.sat_base.specs.declared.items.Share.{Share};
 ghost use Rattle.gf256.specs.Field.{◌⊗◌};
 ghost use Rattle.gf256.specs.Sums.{total};
 ghost use Rattle.gf_linear.specs.Polynomial.{Apart};
-ghost use Rattle.gf_linear.specs.Lagrange.{basis};
-ghost use Rattle.rs_stripe.specs.Weights.{weight};
 ghost use Rattle.bw_decode.specs.Near.{Rises};
 ghost use Rattle.bw_decode.specs.Altered.{indexes_of};
 ghost use Rattle.bw_decode.specs.Answers.{bytes_of, AreChosen, IsPredicted};
 
 use crate::decoding::MOST_POINTS;
-use gf256::{add, inv, mul, mul_add};
+use gf256::mul_add;
+use rs_stripe::find_weights;
 use sat_base::Share;
-
-// The product of x + p over the points p but the one at place `i`.
-fn basis_at(points: &[u8], i: usize, x: u8) -> u8
-    ensures { result ≡ basis (slice_index points.now) (length points.now) i x }
-{
-    let mut product = 1;
-    for j in 0..points.len() {
-        if j == i {
-            continue;
-        }
-        product = mul(product, add(x, points[j]));
-    }
-    product
-}
-
-// What the value at point `i` is multiplied by in the value at `x`.
-fn weight_at(points: &[u8], i: usize, x: u8) -> u8
-    requires place { i < length points.now }
-    requires distinct { Apart (length points.now) (slice_index points.now) }
-    ensures { result ≡ weight (slice_index points.now) (length points.now) i x }
-{
-    mul(basis_at(points, i, x), inv(basis_at(points, i, points[i])))
-}
-
-fn find_weights(points: &[u8], x: u8, weights: &mut [u8])
-    requires lengths { length weights.old ≡ length points.now }
-    requires distinct { Apart (length points.now) (slice_index points.now) }
-    ensures { (j : ℕ) → j < length weights.new
-        → slice_index weights.new j ≡ weight (slice_index points.now) (length points.now) j x }
-{
-    for j in 0..weights.len() {
-        weights[j] = weight_at(points, j, x);
-    }
-}
 
 // Chooses the first answers that aren't marked.
 fn choose_answers(blamed: &[bool], places: &mut [usize])

@@ -6,7 +6,7 @@ ghost use Rattle.rs_stripe.specs.Codeword.{share, IsShare};
 ghost use Rattle.rs_stripe.specs.Segment.{share_of, stripe_of, piece_of, tabulate};
 ghost use Rattle.rs_stripe.specs.Weights.{weighted, AreWeights};
 
-use crate::interpolation::{MOST_SHARES, find_weights, indexes, interpolate};
+use crate::interpolation::{MOST_SHARES, find_share_weights, indexes, interpolate};
 use gf256::mul_add;
 use sat_base::{Bytes, NoMemory, Scheme};
 use std::alloc::Global;
@@ -68,7 +68,7 @@ pub fn encode_share(scheme: &Scheme, stripe: &[u8], index: u8, out: &mut [u8])
 {
     let mut room = [0; MOST_SHARES];
     let weights = &mut room[..usize::from(scheme.k)];
-    find_weights(index, weights);
+    find_share_weights(index, weights);
     combine_rows(weights, stripe, out);
 }
 
@@ -107,7 +107,7 @@ pub fn encode_piece(
 {
     let mut room = [0; MOST_SHARES];
     let weights = &mut room[..usize::from(scheme.k)];
-    find_weights(index, weights);
+    find_share_weights(index, weights);
     let len = segment.len() as u64;
     let mut piece = Vec::from_elem(alloc, 0, scheme.piece_len(len) as usize)?;
     encode_stripes(

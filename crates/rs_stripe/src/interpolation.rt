@@ -68,14 +68,24 @@ pub fn interpolate(points: &[u8], values: &[u8], at: u8) -> u8
     sum
 }
 
+/// Finds what the values at these points, which differ, are multiplied by in the value at `x` of the
+/// polynomial through them (Lagrange's formula). There are as many weights as points.
+pub fn find_weights(points: &[u8], x: u8, weights: &mut [u8])
+    requires lengths { length weights.old ≡ length points.now }
+    requires distinct { Apart (length points.now) (slice_index points.now) }
+    ensures { (i : ℕ) → i < length weights.new
+        → slice_index weights.new i ≡ weight (slice_index points.now) (length points.now) i x }
+{
+    for i in 0..weights.len() {
+        weights[i] = weight_at(points, i, x);
+    }
+}
+
 /// Finds what the bytes of a column are multiplied by in share `index`. There are as many weights
 /// as data bytes.
-pub(crate) fn find_weights(index: u8, weights: &mut [u8])
+pub(crate) fn find_share_weights(index: u8, weights: &mut [u8])
     requires { length weights.old ≤ 128 }
     ensures { AreWeights (length weights.new) index (slice_index weights.new) }
 {
-    let points = indexes(weights.len());
-    for i in 0..weights.len() {
-        weights[i] = weight_at(points, i, index);
-    }
+    find_weights(indexes(weights.len()), index, weights);
 }

@@ -18,5 +18,5 @@ mod laws;
 mod tests;
 
 pub use encoding::{encode_column, encode_piece, encode_share};
-pub use interpolation::interpolate;
+pub use interpolation::{find_weights, interpolate};
 pub use laws::{one_share, share_is_data};

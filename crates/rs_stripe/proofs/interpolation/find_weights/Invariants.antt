@@ -4,4 +4,4 @@ use Rattle.rs_stripe.proofs.interpolation.find_weights.Given as goal
 
 abbrev pub invariant-loop-i : goal.invariant-loop-i
 invariant-loop-i l =
-    (i : ℕ) → i < l.i → slice_index l.weights i ≡ weight (λ j. j) (length l.weights) i l.index
+    (j : ℕ) → j < l.i → slice_index l.weights j ≡ weight (slice_index l.points) (length l.points) j l.x
