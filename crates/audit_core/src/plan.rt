@@ -1,0 +1,26 @@
+// What an audit asks, and what it hears.
+use sat_base::{At, Fetched, Items, Moment, SegId, Serial};
+
+/// An audit of one stripe of a segment: which pieces are asked for their share of it.
+#[derive(Debug, PartialEq, Eq, Drop)]
+pub struct AuditPlan {
+    /// The plan's own number.
+    pub plan: u64,
+    pub segment: SegId,
+    /// The segment's version when it was planned.
+    pub version: u64,
+    /// The stripe, counted from 0.
+    pub stripe: u64,
+    /// The serial of the order limits that go with its asks.
+    pub serial: Serial,
+    pub issued: Moment,
+    /// The pieces that are asked, by rising index.
+    pub asked: Items<At>,
+}
+
+/// What was heard of the piece of one index.
+#[derive(Debug, Drop)]
+pub struct Heard {
+    pub index: u8,
+    pub what: Fetched,
+}

@@ -1,0 +1,4 @@
+pub mod Ranks
+pub mod SeatLemmas
+pub mod Picks
+pub mod DraftLemmas

@@ -1,0 +1,8 @@
+pub mod Entry
+pub mod History
+pub mod Known
+pub mod Passes
+pub mod Register
+pub mod Rule
+pub mod Steps
+pub mod Turned
