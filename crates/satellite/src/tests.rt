@@ -1,4 +1,5 @@
 mod faults;
+mod judge;
 mod lines;
 mod parts;
 mod samples;

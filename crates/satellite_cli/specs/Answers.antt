@@ -1,6 +1,5 @@
 -- The answers to the lines of `settle`, and their text.
-use Rattle.std.specs.Prelude.{ℕ, List, [], ◌∷◌, ◌++◌, Option, Some, None, Result, Ok, Err, codes, option_map}
-use Rattle.std.specs.Fmt.{decimal}
+use Rattle.std.specs.Prelude.{◌≡◌, ℕ, List, [], ◌∷◌, ◌++◌, Option, Some, None, Result, Ok, Err, codes, option_map}
 use Rattle.settlement.specs.declared.row.SettledRow.{SettledRow}
 use Rattle.settlement.specs.declared.answer.Settlable.{Settlable}
 use Rattle.settlement.specs.declared.answer.Settling.{Settling}
@@ -10,6 +9,7 @@ use Rattle.settlement.specs.declared.answer.SettleErr.TheVariants as no
 use Rattle.settlement.specs.Settle.{settlable, settled_as, rows_after}
 use Rattle.satellite_cli.specs.Form.{Asked, asked_of}
 use Rattle.satellite_cli.specs.Lines.{lines_of}
+use Rattle.satellite_cli.specs.Words.{numbered}
 
 -- what settling answers, or None for a line that hasn't the form
 abbrev pub Answer : Type 0
@@ -42,10 +42,6 @@ answers_to secret cap lines = answers_from secret cap [] lines
 
 -- ---- the text
 
--- a word and a number
-unfoldable pub numbered : List ℕ → ℕ → List ℕ
-numbered word n = word ++ decimal n
-
 unfoldable pub settled_text : Result Settling SettleErr → List ℕ
 settled_text (Ok (did.Settled amount)) = numbered (codes "settled ") amount
 settled_text (Ok (did.Again amount)) = numbered (codes "again ") amount
@@ -73,3 +69,6 @@ text_of (a ∷ answers) = answer_text a ++ text_of answers
 -- what `settle` writes for an input
 abbrev pub settle_text : List ℕ → ℕ → List ℕ → List ℕ
 settle_text secret cap input = text_of (answers_to secret cap (lines_of input))
+
+abbrev pub IsSettleText : List ℕ → ℕ → List ℕ → List ℕ → Type 0
+IsSettleText secret cap input text = text ≡ settle_text secret cap input

@@ -5,7 +5,7 @@ use denote.Ref.{Bor}
 use Rattle.hex.specs.Hex.{decode_sized}
 use Rattle.satellite_cli.specs.Words.{same, number_of}
 use Rattle.satellite_cli.specs.declared.command.Command.{Command}
-use Rattle.satellite_cli.specs.declared.command.Command.TheVariants.{Settle}
+use Rattle.satellite_cli.specs.declared.command.Command.TheVariants.{Settle, Judge}
 
 -- the texts behind references
 abbrev pub texts : List (Bor (List ℕ)) → List (List ℕ)
@@ -54,6 +54,11 @@ abbrev pub in_range : ℕ → ℕ → Option ℕ → Option ℕ
 in_range low high None = None
 in_range low high (Some n) = if nat_le low n && nat_le n high then Some n else None
 
+-- a number from low to high
+abbrev pub number_within : ℕ → ℕ → Option (List ℕ) → Option ℕ
+number_within low high None = None
+number_within low high (Some text) = in_range low high (number_of text)
+
 -- the cap on settled rows, the greatest one where it isn't named
 abbrev pub cap_of : Option (List ℕ) → Option ℕ
 cap_of None = Some 4194304
@@ -69,10 +74,30 @@ settle_with None cap = None
 settle_with (Some secret) None = None
 settle_with (Some secret) (Some cap) = Some (Settle secret cap)
 
+-- the command that the words behind `settle` make
+unfoldable pub settle_of : List (List ℕ) → Option Command
+settle_of words =
+    if is_form settle_names words
+    then settle_with (secret_of (value_of (codes "--secret") words)) (cap_of (value_of (codes "--cap") words))
+    else None
+
+abbrev pub judge_names : List (List ℕ)
+judge_names = codes "--k" ∷ codes "--share" ∷ []
+
+abbrev pub judge_with : Option ℕ → Option ℕ → Option Command
+judge_with None share = None
+judge_with (Some k) None = None
+judge_with (Some k) (Some share) = Some (Judge k share)
+
+-- the command that the words behind `judge` make
+unfoldable pub judge_of : List (List ℕ) → Option Command
+judge_of words =
+    if is_form judge_names words
+    then judge_with (number_within 1 127 (value_of (codes "--k") words)) (number_within 1 1024 (value_of (codes "--share") words))
+    else None
+
 -- the command that the words are, if they are one
 unfoldable pub command_of : List (List ℕ) → Option Command
 command_of [] = None
 command_of (name ∷ words) =
-    if same name (codes "settle") && is_form settle_names words
-    then settle_with (secret_of (value_of (codes "--secret") words)) (cap_of (value_of (codes "--cap") words))
-    else None
+    if same name (codes "settle") then settle_of words else (if same name (codes "judge") then judge_of words else None)

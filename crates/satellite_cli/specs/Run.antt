@@ -1,6 +1,8 @@
--- A run of `settle`, by what the console tells and by its counts.
+-- A run of a command that answers its input, by what the console tells and by its counts.
 use Rattle.std.specs.Prelude.{◌≡◌, ◌⊎◌, ℕ, ◌≤◌, List, [], ◌++◌, length, take, Option, Some, codes, ◌==◌, if◌then◌else◌}
 use Rattle.sat_base.specs.Outside.{with_front, with_end, Rose}
+use Rattle.satellite_cli.specs.declared.run.Outcome.{Outcome}
+use Rattle.satellite_cli.specs.declared.run.Outcome.TheVariants.{Text, Refused}
 use Rattle.satellite_cli.specs.declared.status.Status.{Status}
 use Rattle.satellite_cli.specs.declared.status.Status.TheVariants as ends
 
@@ -19,11 +21,12 @@ abbrev pub code_of : Status → ℕ
 code_of ends.Ok = 0
 code_of ends.Usage = 2
 code_of ends.SinkFault = 5
+code_of ends.Refused = 8
 code_of ends.NoMemory = 9
 code_of ends.InputFault = 11
 code_of ends.InputLong = 12
 
--- the line of a status on the console
+-- the line of a status on the console. That of a refusal is the command's own
 abbrev pub fault_line : ℕ → List ℕ
 fault_line status =
     if status == 2 then codes "error: usage\n"
@@ -31,37 +34,76 @@ fault_line status =
     else (if status == 12 then codes "error: input-long\n"
     else (if status == 9 then codes "error: memory\n" else [])))
 
--- the line of a fault was written, whole unless the write count rose; nothing else changed
-pub record Says (old new : Seen) (status : ℕ) : Type 0 where
-  pub front : (m : ℕ) × (new.written ≡ with_end old.written (take m (fault_line status)))
-  pub whole : (new.written ≡ with_end old.written (fault_line status)) ⊎ Rose old.write_faults new.write_faults
+-- a line was written, whole unless the write count rose; nothing else changed
+pub record Says (line : List ℕ) (old new : Seen) : Type 0 where
+  pub front : (m : ℕ) × (new.written ≡ with_end old.written (take m line))
+  pub whole : (new.written ≡ with_end old.written line) ⊎ Rose old.write_faults new.write_faults
   pub left : new.left ≡ old.left
   pub read_faults : new.read_faults ≡ old.read_faults
 
--- the text of the answers was written, or the end of the run says why not
-pub record Answers (text : List ℕ) (old new : Seen) (status : ℕ) : Type 0 where
-  pub whole : status ≡ 0 → new.written ≡ with_end old.written text
-  pub front : (n : ℕ) × (m : ℕ) × (new.written ≡ with_end old.written (take n text ++ take m (fault_line status)))
-  pub said : (status ≡ 0 → ⊥) → (new.written ≡ with_end old.written (fault_line status)) ⊎ Rose old.write_faults new.write_faults
+-- ---- what a command makes of its input: it says of which inputs a text is the answers, or a line a refusal
+
+-- a command that takes each input
+abbrev pub NoRefusal : List ℕ → List ℕ → Type 0
+NoRefusal input line = ⊥
+
+abbrev pub IsOutcome : (List ℕ → List ℕ → Type 0) → (List ℕ → List ℕ → Type 0) → List ℕ → Outcome → Type 0
+IsOutcome IsText IsRefusal input (Text text) = IsText input text.items
+IsOutcome IsText IsRefusal input (Refused line) = IsRefusal input line.items
+
+-- the line that a run ends with: at status 8 the refusal of its input
+abbrev pub IsLine : (List ℕ → List ℕ → Type 0) → List ℕ → ℕ → List ℕ → Type 0
+IsLine IsRefusal input status line = (status ≡ 8 → IsRefusal input line) × ((status ≡ 8 → ⊥) → line ≡ fault_line status)
+
+-- a front of the input's text was written, then a front of the line
+pub record Fronts (IsText IsRefusal : List ℕ → List ℕ → Type 0) (input : List ℕ) (old new : Seen) (status : ℕ) : Type 0 where
+  pub text : List ℕ
+  pub line : List ℕ
+  pub n : ℕ
+  pub m : ℕ
+  pub of_text : (n ≡ 0) ⊎ IsText input text
+  pub of_line : IsLine IsRefusal input status line
+  pub written : new.written ≡ with_end old.written (take n text ++ take m line)
+
+-- the line alone was written, and whole, unless the write count rose
+pub record LastLine (IsRefusal : List ℕ → List ℕ → Type 0) (input : List ℕ) (old new : Seen) (status : ℕ) : Type 0 where
+  pub line : List ℕ
+  pub of_line : IsLine IsRefusal input status line
+  pub whole : (new.written ≡ with_end old.written line) ⊎ Rose old.write_faults new.write_faults
+
+-- the whole text of the input was written
+abbrev pub Whole : (List ℕ → List ℕ → Type 0) → List ℕ → Seen → Seen → Type 0
+Whole IsText input old new = (text : List ℕ) × IsText input text × (new.written ≡ with_end old.written text)
+
+-- the command ran to its end, or refused its input
+abbrev pub IsAnswer : ℕ → Type 0
+IsAnswer status = (status ≡ 0) ⊎ (status ≡ 8)
+
+-- an input was answered, or the end of the run says why not
+pub record Answers (IsText IsRefusal : List ℕ → List ℕ → Type 0) (input : List ℕ) (old new : Seen) (status : ℕ) : Type 0 where
+  pub whole : status ≡ 0 → Whole IsText input old new
+  pub front : Fronts IsText IsRefusal input old new status
+  pub said : (status ≡ 0 → ⊥) → LastLine IsRefusal input old new status
   pub write_fault : status ≡ 5 → Rose old.write_faults new.write_faults
   pub same : (new.left ≡ old.left) × (new.read_faults ≡ old.read_faults)
-  pub which : (status ≡ 0) ⊎ ((status ≡ 5) ⊎ (status ≡ 9))
+  pub which : (status ≡ 0) ⊎ ((status ≡ 5) ⊎ ((status ≡ 8) ⊎ (status ≡ 9)))
 
--- a run whose answers to an input are this text, from one sight of the console to the other
-pub record Ran (text : List ℕ → List ℕ) (old new : Seen) (status : ℕ) : Type 0 where
+-- a run, from one sight of the console to the other
+pub record Ran (IsText IsRefusal : List ℕ → List ℕ → Type 0) (old new : Seen) (status : ℕ) : Type 0 where
   -- what was taken of the input, where nothing is told too
   pub input : List ℕ
   pub at_most : length input ≤ 1048577
   pub took : old.left ≡ with_front input new.left
-  -- status 0: nothing is left of a short input, and the text was written
-  pub nothing_left : status ≡ 0 → (bytes : List ℕ) → new.left ≡ Some bytes → bytes ≡ []
-  pub short : status ≡ 0 → length input ≤ 1048576
-  pub answered : status ≡ 0 → new.written ≡ with_end old.written (text input)
-  -- else a front of the text, then a front of the fault's line, which is whole unless the write count rose
-  pub front : (n : ℕ) × (m : ℕ) × (new.written ≡ with_end old.written (take n (text input) ++ take m (fault_line status)))
-  pub said : (status ≡ 0 → ⊥) → (new.written ≡ with_end old.written (fault_line status)) ⊎ Rose old.write_faults new.write_faults
-  -- the causes; want of memory, 9, has none
+  -- status 0 and 8: nothing is left of a short input
+  pub nothing_left : IsAnswer status → (bytes : List ℕ) → new.left ≡ Some bytes → bytes ≡ []
+  pub short : IsAnswer status → length input ≤ 1048576
+  -- status 0: the text was written
+  pub answered : status ≡ 0 → Whole IsText input old new
+  -- else a front of the text, then a front of the line, which is whole unless the write count rose
+  pub front : Fronts IsText IsRefusal input old new status
+  pub said : (status ≡ 0 → ⊥) → LastLine IsRefusal input old new status
+  -- the causes; that of 8 stands in its line, and want of memory, 9, has none
   pub write_fault : status ≡ 5 → Rose old.write_faults new.write_faults
   pub read_fault : status ≡ 11 → Rose old.read_faults new.read_faults
   pub long : status ≡ 12 → length input ≡ 1048577
-  pub which : (status ≡ 0) ⊎ ((status ≡ 5) ⊎ ((status ≡ 9) ⊎ ((status ≡ 11) ⊎ (status ≡ 12))))
+  pub which : (status ≡ 0) ⊎ ((status ≡ 5) ⊎ ((status ≡ 8) ⊎ ((status ≡ 9) ⊎ ((status ≡ 11) ⊎ (status ≡ 12)))))

@@ -1,6 +1,7 @@
 -- Numbers and words in a text.
-use Rattle.std.specs.Prelude.{Bool, ℕ, ◌+◌, ◌-◌, ◌*◌, List, length, Option, Some, None, fold, take, drop, position, option_map, ◌==◌, ◌&&◌, nat_le, nat_eq, if◌then◌else◌}
+use Rattle.std.specs.Prelude.{Bool, ℕ, ◌+◌, ◌-◌, ◌*◌, List, ◌++◌, length, Option, Some, None, fold, take, drop, position, option_map, ◌==◌, ◌&&◌, nat_le, nat_eq, if◌then◌else◌}
 use Rattle.std.specs.List.{list_all}
+use Rattle.std.specs.Fmt.{decimal}
 use Rattle.std.specs.Int.{is_in_range}
 use Rattle.std.specs.Cmp.Lexicographic.{pointwise}
 
@@ -25,3 +26,7 @@ number_of text = if nat_le 1 (length text) && nat_le (length text) 20 && list_al
 -- what stands before the first space, and behind it
 unfoldable pub split_of : List ℕ → Option (List ℕ × List ℕ)
 split_of text = option_map (λ i. (take i text, drop (i + 1) text)) (position is_space text)
+
+-- a word and a number
+unfoldable pub numbered : List ℕ → ℕ → List ℕ
+numbered word n = word ++ decimal n

@@ -3,13 +3,13 @@ ghost use Rattle.std.specs.Prelude.{◌≡◌, ◌++◌, [], IfOk, OnOk, Some, o
 ghost use Rattle.satellite_cli.specs.Lines.{lines_of};
 ghost use Rattle.satellite_cli.specs.Form.{asked_of};
 ghost use Rattle.satellite_cli.specs.Question.{asked_as};
-ghost use Rattle.satellite_cli.specs.Answers.{answers_to, answer_text, line_settlable, numbered, rows_behind, settle_text, settled_text};
+ghost use Rattle.satellite_cli.specs.Answers.{answers_to, answer_text, line_settlable, rows_behind, settle_text, settled_text};
 ghost use Rattle.settlement.specs.Settle.{settled_as};
 
 use crate::lines::next_line;
 use crate::parse::{number, split};
+use crate::text::push_numbered;
 use hex::FromHexError;
-use itoa::Buffer;
 use order_limits::Keys;
 use sat_base::{Moment, NoMemory, NodeId};
 use settlement::{SettleErr, Settled, Settling};
@@ -52,17 +52,6 @@ fn read_question(alloc: Global, line: &[u8]) -> Result<Option<Question>, NoMemor
             order,
         })),
     }
-}
-
-// Writes a word and a number.
-#[tactic(auto, unfolding(crate::specs::Answers::numbered))]
-fn push_numbered(text: &mut Vec<u8>, word: &[u8], n: u64) -> Result<(), NoMemory>
-    ensures { OnOk result (text.new.items ≡ text.old.items ++ numbered word.now n) }
-{
-    let mut buffer = Buffer::new();
-    text.extend_from_slice(word)?;
-    text.extend_from_slice(buffer.format(n).as_bytes())?;
-    Ok(())
 }
 
 // Writes what settling answered, without the LF.

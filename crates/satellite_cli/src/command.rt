@@ -1,6 +1,6 @@
 // The words of the command line.
 ghost use Rattle.std.specs.Prelude.{◌≡◌, ◌<◌, ◌≤◌, ◌+◌, ◌^◌, ◌↔◌, None, length, drop, option_map};
-ghost use Rattle.satellite_cli.specs.Command.{cap_of, command_of, is_form, is_named, is_pair, is_value, result_ok, secret_of, texts, value_of};
+ghost use Rattle.satellite_cli.specs.Command.{cap_of, command_of, is_form, is_named, is_pair, is_value, judge_of, number_within, result_ok, secret_of, settle_of, texts, value_of};
 
 use crate::parse::number;
 use hex::FromHex;
@@ -11,6 +11,8 @@ use sat_base::Line;
 pub enum Command {
     /// Settle the orders of the input, at most `cap` of them, under a secret of 32 bytes.
     Settle { secret: [u8; 32], cap: u32 },
+    /// Judge the answers of the input, which are shares of `share` bytes, by a stripe that `k` of them rebuild.
+    Judge { k: u8, share: u16 },
 }
 
 /// Why words are no command.
@@ -107,12 +109,24 @@ fn cap_in(text: Option<&str>) -> Option<u32>
     }
 }
 
-// The command that the words are.
-#[tactic(auto, unfolding(crate::specs::Command::command_of))]
-fn command_in(line: &Line) -> Option<Command>
-    ensures { result ≡ command_of line.now }
+// A number from 1 to the greatest one.
+fn number_to(greatest: u64, text: Option<&str>) -> Option<u64>
+    requires { greatest < 2 ^ 32 }
+    ensures { result ≡ number_within 1 greatest (option_map (λ v. v.now) text.entry) }
 {
-    if line.is_empty() || line.word(0) != "settle" || !has_form(line, &["--secret", "--cap"]) {
+    match number(text?.as_bytes()) {
+        Some(n) if 1 <= n && n <= greatest => Some(n),
+        _ => None,
+    }
+}
+
+// The command that the words behind `settle` make.
+#[tactic(auto, unfolding(crate::specs::Command::settle_of))]
+fn settle_in(line: &Line) -> Option<Command>
+    requires { 1 ≤ length line.now }
+    ensures { result ≡ settle_of (drop 1 line.now) }
+{
+    if !has_form(line, &["--secret", "--cap"]) {
         return None;
     }
     let secret = secret_in(value(line, "--secret", 1))?;
@@ -120,8 +134,44 @@ fn command_in(line: &Line) -> Option<Command>
     Some(Command::Settle { secret, cap })
 }
 
+// The command that the words behind `judge` make.
+#[tactic(auto, unfolding(crate::specs::Command::judge_of))]
+fn judge_in(line: &Line) -> Option<Command>
+    requires { 1 ≤ length line.now }
+    ensures { result ≡ judge_of (drop 1 line.now) }
+{
+    if !has_form(line, &["--k", "--share"]) {
+        return None;
+    }
+    let k = number_to(127, value(line, "--k", 1))?;
+    let share = number_to(1024, value(line, "--share", 1))?;
+    Some(Command::Judge {
+        k: k as u8,
+        share: share as u16,
+    })
+}
+
+// The command that the words are.
+#[tactic(auto, unfolding(crate::specs::Command::command_of))]
+fn command_in(line: &Line) -> Option<Command>
+    ensures { result ≡ command_of line.now }
+{
+    if line.is_empty() {
+        return None;
+    }
+    let name = line.word(0);
+    if name == "settle" {
+        return settle_in(line);
+    }
+    if name == "judge" {
+        return judge_in(line);
+    }
+    None
+}
+
 /// Reads the words of a command line, after the program's name: `settle`, then in any order
-/// `--secret HEX64` and, where wanted, `--cap N` with N from 1 to 4194304. `Usage` for any other words.
+/// `--secret HEX64` and, where wanted, `--cap N` with N from 1 to 4194304; or `judge`, then in any order
+/// `--k K` with K from 1 to 127 and `--share S` with S from 1 to 1024. `Usage` for any other words.
 pub fn read_line(line: &Line) -> Result<Command, LineErr>
     ensures command { result_ok result ≡ command_of line.now }
     ensures usage { (result ≡ Err LineErr.Usage) ↔ (command_of line.now ≡ None) }

@@ -3,11 +3,14 @@
 
 mod answer;
 mod command;
+mod judge;
 mod lines;
 mod parse;
+mod run;
 mod settle;
 mod status;
 mod stream;
+mod text;
 mod top;
 
 pub use command::{Command, LineErr, read_line};

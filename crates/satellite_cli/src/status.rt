@@ -9,6 +9,8 @@ pub enum Status {
     Usage = 2,
     /// The console could not be written.
     SinkFault = 5,
+    /// The command refused what it was given.
+    Refused = 8,
     /// Memory is wanting.
     NoMemory = 9,
     /// The console could not be read.
@@ -27,12 +29,13 @@ impl Status {
         self as u8
     }
 
-    /// What the console says of it, with its LF; nothing where the run ended well or can't be told.
+    /// What the console says of it, with its LF; nothing where the run ended well or can't be told, or where
+    /// the command has a line of its own.
     pub fn line(self) -> &'static [u8]
         ensures { result.now ≡ fault_line (code_of self) }
     {
         match self {
-            Status::Ok | Status::SinkFault => b"",
+            Status::Ok | Status::SinkFault | Status::Refused => b"",
             Status::Usage => b"error: usage\n",
             Status::NoMemory => b"error: memory\n",
             Status::InputFault => b"error: input\n",
