@@ -1,14 +1,13 @@
 -- A solution of the system gives an error locator, and the values where it is not 0 give the near
 -- codeword.
-use Rattle.std.proofs.Common.{ℕ, suc, ◌≡◌, ◌<◌, ◌≤◌, ◌+◌, ◌-◌, ◌/◌, sym, ap, ◌∙◌, subst, List, [], ◌∷◌, ◌++◌, length, get_or, take, drop, ◌⊎◌, inl, inr, arith, lit<, slice_index, length-drop}
+use Rattle.std.proofs.Common.{ℕ, suc, ◌≡◌, ◌<◌, ◌≤◌, ◌+◌, ◌-◌, ◌/◌, sym, ap, ◌∙◌, subst, List, [], ◌∷◌, length, get_or, ◌⊎◌, inl, inr, arith, slice_index}
 use Rattle.std.proofs.lemmas.Bool.{cases_lt}
-use Rattle.std.proofs.lemmas.List.{get_or-take, get_or-drop, length-take-le, get_or_past, length-take}
 use Rattle.gf256.specs.Field.{◌⊗◌}
 use Rattle.gf256.proofs.Sums.{total_agree}
 use Rattle.gf_linear.specs.System.{IsSolution}
 use Rattle.gf_linear.specs.Differences.{differences}
 use Rattle.gf_linear.specs.Lagrange.{interpolated}
-use Rattle.gf_linear.specs.Polynomial.{Bytes, Apart}
+use Rattle.gf_linear.specs.Polynomial.{horner, Bytes, Apart}
 use Rattle.gf_linear.proofs.Lagrange.{AreBytes, lagrange_poly, lagrange_only, differences_agree}
 use Rattle.rs_stripe.specs.Codeword.{share}
 use Rattle.bw_decode.specs.Near.{IsNearData, Rises}
@@ -45,71 +44,55 @@ solution_agree r u M N x e s i h =
     ∙ s i h ∙ e i u h (omega arith)
 
 -- where data are near, the system has a solution
-pub has_solution : (r k : ℕ) (X Y : ℕ → ℕ) (M : ℕ → ℕ → ℕ) (u : ℕ)
-    → u ≡ k + ((r - k) / 2 + (r - k) / 2)
-    → ((i j : ℕ) → i < r → j < u + 1 → M i j ≡ system X Y (k + (r - k) / 2) i j)
-    → (d : ℕ → ℕ) → IsNearData r k X Y d → (x : ℕ → ℕ) × IsSolution r u M x
-has_solution r k X Y M u size entries d near =
+pub has_solution : (r k : ℕ) (X Y : ℕ → ℕ) (M : ℕ → ℕ → ℕ) → Apart r X → AreBytes r X → k ≤ r
+    → ((i c : ℕ) → i < r - (k + (r - k) / 2) → c < (r - k) / 2 + 1 → M i c ≡ system (k + (r - k) / 2) X Y i c)
+    → (d : ℕ → ℕ) → IsNearData r k X Y d
+    → (x : ℕ → ℕ) × IsSolution (r - (k + (r - k) / 2)) ((r - k) / 2) M x
+has_solution r k X Y M apart bx size entries d near =
     let e = (r - k) / 2 in
+    let w = k + e in
     let s = solution_from_near r k e X Y (share k d) (near_of r k X Y d near) in
-    let wide : length s.q + length s.l ≡ u = omega (arith, s.q_size, s.l_size) in
-    let solved = solved_by r X Y s.q s.l s.q_bytes s.l_bytes s.solves in
-    let x = slice_index (s.q ++ s.l) in (
-      x,
-      solution_agree r u (system X Y (k + e)) M x (λ i j a b. sym (entries i j a b))
-          (subst (λ n. IsSolution r n (system X Y (k + e)) x) wide
-          (subst (λ w. IsSolution r (length s.q + length s.l) (system X Y w) x) s.q_size solved)),
+    let solved = solved_by r w X Y s.q s.l s.q_size s.q_bytes s.l_bytes (omega arith) apart bx s.solves in (
+      slice_index s.l,
+      solution_agree (r - w) e (system w X Y) M (slice_index s.l) (λ i j a b. sym (entries i j a b))
+          (subst (λ n. IsSolution (r - w) n (system w X Y) (slice_index s.l)) s.l_size solved),
     )
 
 -- the values zs are bytes, and solve the table that holds the system
 pub record IsSolved (r k : ℕ) (X Y : ℕ → ℕ) (M : ℕ → ℕ → ℕ) (zs : List ℕ) : Type 0 where
-  pub size : length zs ≡ k + ((r - k) / 2 + (r - k) / 2)
-  pub entries : (i j : ℕ) → i < r → j < length zs + 1 → M i j ≡ system X Y (k + (r - k) / 2) i j
+  pub size : length zs ≡ (r - k) / 2
+  pub entries :
+      (i c : ℕ) → i < r - (k + (r - k) / 2) → c < length zs + 1
+      → M i c ≡ system (k + (r - k) / 2) X Y i c
   pub bytes : (i : ℕ) → get_or zs i 0 < 256
-  pub solved : IsSolution r (length zs) M (slice_index zs)
+  pub solved : IsSolution (r - (k + (r - k) / 2)) (length zs) M (slice_index zs)
 
--- a solution is a pair of polynomials
-solution_of : (r k : ℕ) (X Y : ℕ → ℕ) (M : ℕ → ℕ → ℕ) (zs : List ℕ)
-    → IsSolved r k X Y M zs → Solution r k ((r - k) / 2) X Y
-solution_of r k X Y M zs given =
+-- with the polynomial through the first values, each times the locator's, a solution is a pair
+solution_of : (r k : ℕ) (X Y : ℕ → ℕ) (M : ℕ → ℕ → ℕ) (zs : List ℕ) → IsSolved r k X Y M zs
+    → Apart r X → AreBytes r X → k ≤ r → Solution r k ((r - k) / 2) X Y
+solution_of r k X Y M zs given apart bx size =
     let e = (r - k) / 2 in
     let w = k + e in
-    let q = take w zs in
-    let l = drop w zs in
-    let q_size : length q ≡ w = length-take-le w zs (omega (arith, given.size)) in
-    let l_size : length l ≡ e = omega (arith, length-drop w zs, given.size) in
-    let wide : length zs ≡ length q + length l = omega (arith, given.size) in
-    let q_bytes = bytes_of q (λ i. q_byte i (cases_lt i w)) in
-    let l_bytes = bytes_of l (λ i. subst (λ z. z < 256) (sym (get_or-drop w zs i 0)) (given.bytes (w + i))) in
+    let l_bytes = bytes_of zs given.bytes in
+    let p = lagrange_poly w X (λ j. Y j ⊗ horner 1 zs (X j)) in
+    let solved = solution_agree (r - w) (length zs) M (system w X Y) (slice_index zs) given.entries given.solved in
     record {
-      q = q;
-      l = l;
-      q_size = q_size;
-      l_size = l_size;
-      q_bytes = q_bytes;
+      q = p.cs;
+      l = zs;
+      q_size = p.size;
+      l_size = given.size;
+      q_bytes = p.bytes;
       l_bytes = l_bytes;
-      solves = read_from r X Y (slice_index zs) q l q_bytes l_bytes
-          (λ j h. sym (get_or-take w zs j 0 (omega arith)))
-          (λ j h. ap (λ n. get_or zs (n + j) 0) q_size ∙ sym (get_or-drop w zs j 0))
-          (subst (λ n. IsSolution r n (system X Y (length q)) (slice_index zs)) wide
-          (subst (λ n. IsSolution r (length zs) (system X Y n) (slice_index zs)) (sym q_size)
-          (solution_agree r (length zs) M (system X Y w) (slice_index zs) given.entries given.solved)));
+      solves = record { at_each = λ i h. sym (p.is (X i)) ∙ read_from r w X Y zs l_bytes (omega arith) apart bx solved i h };
     }
-  where
-    q_byte : (i : ℕ) → (i < k + (r - k) / 2) ⊎ (k + (r - k) / 2 ≤ i) → get_or (take (k + (r - k) / 2) zs) i 0 < 256
-    q_byte i (inl h) = subst (λ z. z < 256) (sym (get_or-take (k + (r - k) / 2) zs i 0 h)) (given.bytes i)
-    q_byte i (inr h) =
-        subst (λ z. z < 256)
-        (sym (get_or_past (take (k + (r - k) / 2) zs) i 0 (omega (arith, length-take (k + (r - k) / 2) zs)))) (lit< tt)
 
 -- its second polynomial is an error locator
 pub locator : (r k : ℕ) (X Y : ℕ → ℕ) (M : ℕ → ℕ → ℕ) (zs : List ℕ) → IsSolved r k X Y M zs
-    → Apart r X → AreBytes r X → AreBytes r Y → k ≤ r
-    → IsLocator r k X Y (drop (k + (r - k) / 2) zs)
+    → Apart r X → AreBytes r X → AreBytes r Y → k ≤ r → IsLocator r k X Y zs
 unfolding solution_of
 locator r k X Y M zs given apart bx by size = record {
-  right = λ d near i h ne. right_there r k ((r - k) / 2) X Y (share k d) apart bx by (omega arith) (near_of r k X Y d near) (solution_of r k X Y M zs given) i h ne;
-  enough = λ d near. enough_there r k ((r - k) / 2) X Y (share k d) apart bx by (omega arith) (near_of r k X Y d near) (solution_of r k X Y M zs given);
+  right = λ d near i h ne. right_there r k ((r - k) / 2) X Y (share k d) apart bx by (omega arith) (near_of r k X Y d near) (solution_of r k X Y M zs given apart bx size) i h ne;
+  enough = λ d near. enough_there r k ((r - k) / 2) X Y (share k d) apart bx by (omega arith) (near_of r k X Y d near) (solution_of r k X Y M zs given apart bx size);
 }
 
 -- ---- the codeword that is read off

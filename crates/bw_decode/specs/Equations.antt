@@ -1,18 +1,20 @@
--- The linear system of Berlekamp and Welch, and the polynomial that it yields.
-use Rattle.std.specs.Prelude.{◌≡◌, ◌≢◌, ℕ, ◌-◌, ◌<◌, ◌≤◌, List, cond, ltb}
-use Rattle.gf256.specs.Field.{◌⊗◌, power}
+-- The linear system whose unknowns are the coefficients of an error locator.
+use Rattle.std.specs.Prelude.{◌≡◌, ◌≢◌, ℕ, ◌+◌, ◌<◌, ◌≤◌, List}
+use Rattle.gf256.specs.Field.{◌⊕◌, ◌⊗◌, power}
 use Rattle.gf_linear.specs.Differences.{differences}
+use Rattle.gf_linear.specs.Lagrange.{interpolated}
 use Rattle.gf_linear.specs.Polynomial.{horner}
 use Rattle.rs_stripe.specs.Codeword.{share}
 use Rattle.bw_decode.specs.Near.{IsNearData}
 
--- the coefficients of one point's equation: the powers of x, and then y times these
-abbrev pub coefficient : ℕ → ℕ → ℕ → ℕ → ℕ
-coefficient x y width j = cond (ltb j width) (power x j) (y ⊗ power x (j - width))
+-- what the value y at the point x, times the power c of x, is off the polynomial through the values Y
+-- at the w points X, each times that power of its point
+abbrev pub coefficient : ℕ → (ℕ → ℕ) → (ℕ → ℕ) → ℕ → ℕ → ℕ → ℕ
+coefficient w X Y x y c = interpolated w X (λ j. Y j ⊗ power (X j) c) x ⊕ y ⊗ power x c
 
--- the same of point i
-abbrev pub system : (ℕ → ℕ) → (ℕ → ℕ) → ℕ → ℕ → ℕ → ℕ
-system X Y width i j = coefficient (X i) (Y i) width j
+-- the same of point w + i
+abbrev pub system : ℕ → (ℕ → ℕ) → (ℕ → ℕ) → ℕ → ℕ → ℕ
+system w X Y i c = coefficient w X Y (X (w + i)) (Y (w + i)) c
 
 -- the polynomial with the leading coefficient 1 is an error locator of the r values Y at the points
 -- X: where some data are near, it is 0 at each point where their codeword differs from the values,

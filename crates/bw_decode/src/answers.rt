@@ -1,11 +1,13 @@
 // The answers' bytes, column by column, and the marks of those that are known to be altered.
 ghost use Rattle.std.specs.Prelude.{◌≡◌, ◌≢◌, ℕ, ◌*◌, ◌<◌, length, slice_index, slice_index_or, get_or, false, not, eqb, All, IfSome, IfNone};
 ghost use Rattle.sat_base.specs.declared.items.Share.{Share};
+ghost use Rattle.rs_stripe.specs.Weights.{AreDivisors};
 ghost use Rattle.bw_decode.specs.Altered.{is_altered, indexes_of};
 ghost use Rattle.bw_decode.specs.Answers.{bytes_of, byte_of, marked, column_share, AreRight, Disagrees, IsBlamed};
 
+use crate::decoding::MOST_POINTS;
 use gf256::same;
-use rs_stripe::{encode_column, encode_share};
+use rs_stripe::{encode_column_with, encode_share_with, find_share_divisors};
 use sat_base::{Scheme, Share};
 
 // Reads the indexes of the answers.
@@ -70,8 +72,11 @@ pub(crate) fn mark_off_codeword(
     ensures { IsBlamed scheme.now.k (slice_index column.now) (slice_index points.now)
         (slice_index values.now) blamed.old blamed.new }
 {
+    let mut room = [0; MOST_POINTS];
+    let divisors = &mut room[..column.len()];
+    find_share_divisors(divisors);
     for i in 0..points.len() {
-        if encode_column(scheme, column, points[i]) != values[i] {
+        if encode_column_with(scheme, divisors, column, points[i]) != values[i] {
             blamed[i] = true;
         }
     }
@@ -95,8 +100,17 @@ fn find_difference(a: &[u8], b: &[u8]) -> Option<usize>
     None
 }
 
-// A column in which the answer is not the stripe's share. `share` is room for a share.
-fn column_off(scheme: &Scheme, stripe: &[u8], answer: &Share, share: &mut [u8]) -> Option<usize>
+// A column in which the answer is not the stripe's share. The divisors are those of the data's points,
+// and `share` is room for a share.
+fn column_off(
+    scheme: &Scheme,
+    divisors: &[u8],
+    stripe: &[u8],
+    answer: &Share,
+    share: &mut [u8],
+) -> Option<usize>
+    requires found { length divisors.now ≡ scheme.now.k }
+    requires divisors { AreDivisors (length divisors.now) (λ i. i) (slice_index divisors.now) }
     requires stripe { length stripe.now ≡ scheme.now.k * scheme.now.share }
     requires share { length share.old ≡ scheme.now.share }
     requires index { answer.now.index < scheme.now.n }
@@ -107,7 +121,7 @@ fn column_off(scheme: &Scheme, stripe: &[u8], answer: &Share, share: &mut [u8]) 
     ensures none { IfNone result
         (is_altered scheme.now.k scheme.now.share stripe.now answer.now ≡ false) }
 {
-    encode_share(scheme, stripe, answer.index, share);
+    encode_share_with(scheme, divisors, stripe, answer.index, share);
     find_difference(share, answer.bytes.as_slice())
 }
 
@@ -132,11 +146,14 @@ pub(crate) fn find_disagreement(
     ensures none { IfNone result
         (AreRight scheme.now.k scheme.now.share stripe.now answers.now blamed.now) }
 {
+    let mut room = [0; MOST_POINTS];
+    let divisors = &mut room[..usize::from(scheme.k)];
+    find_share_divisors(divisors);
     for i in 0..answers.len() {
         if blamed[i] {
             continue;
         }
-        if let Some(c) = column_off(scheme, stripe, &answers[i], share) {
+        if let Some(c) = column_off(scheme, divisors, stripe, &answers[i], share) {
             return Some(c);
         }
     }

@@ -10,16 +10,18 @@
 //!
 //! - **What is solved.** An error locator is a polynomial l of degree e with the leading
 //!   coefficient 1 that is 0 at each wrong point. With q = f l, the equation q(x) = y l(x) then
-//!   holds at each point: where the value is right as y = f(x), and else as both sides are 0. The
-//!   coefficients of q, of which there are k + e, and those of l below its leading one are the
-//!   unknowns of one linear system ([`gf_linear::solve`]), with an equation for each point. So
-//!   where a near codeword exists, the system has a solution, and where it has none, nothing is
-//!   near.
-//! - **Why a solution gives the codeword.** Let f be near, and q and l any solution. At the right
-//!   points, of which there are at least r - e, and so at least k + e, q and f l agree. Both are
-//!   below degree k + e, so they are one polynomial. At each point where l is not 0, y l(x) = q(x)
-//!   = f(x) l(x), so y = f(x). As l has at most e roots, there are at least r - e, and so at least
-//!   k such points, and any k of them give f by interpolation.
+//!   holds at each point: where the value is right as y = f(x), and else as both sides are 0. As q
+//!   is below degree k + e, the equations of the first k + e points say what it is, by
+//!   interpolation, whatever l is. So the unknowns are the coefficients of l below its leading
+//!   one, and each other point, of which there are e or e + 1, gives a linear equation
+//!   ([`gf_linear::solve`]): what y l(x) is off the polynomial through the first ones. Where a
+//!   near codeword exists, the system has a solution, and where it has none, nothing is near.
+//! - **Why a solution gives the codeword.** Let f be near, l any solution, and q the polynomial
+//!   that goes with it. At the right points, of which there are at least r - e, and so at least
+//!   k + e, q and f l agree. Both are below degree k + e, so they are one polynomial. At each
+//!   point where l is not 0, y l(x) = q(x) = f(x) l(x), so y = f(x). As l has at most e roots,
+//!   there are at least r - e, and so at least k such points, and any k of them give f by
+//!   interpolation.
 //! - **Why nothing else is near.** Two codewords that are near the same values differ at no more
 //!   than e + e points, agree at r - 2 e or more, which is at least k, and so are the same.
 //!

@@ -1,7 +1,7 @@
 // The stripe that some of the answers predict, by sums of whole rows.
 ghost use Rattle.std.specs.Prelude.{◌≡◌, ℕ, ◌+◌, ◌*◌, ◌<◌, ◌≤◌, List, length, slice_index, slice_index_or, get_or, false, not, count_by};
 ghost use Rattle.sat_base.specs.declared.items.Share.{Share};
-ghost use Rattle.gf256.specs.Field.{◌⊗◌};
+ghost use Rattle.gf256.specs.Field.{◌⊕◌, ◌⊗◌};
 ghost use Rattle.gf256.specs.Sums.{total};
 ghost use Rattle.gf_linear.specs.Polynomial.{Apart};
 ghost use Rattle.bw_decode.specs.Near.{Rises};
@@ -10,7 +10,7 @@ ghost use Rattle.bw_decode.specs.Answers.{bytes_of, AreChosen, IsPredicted};
 
 use crate::decoding::MOST_POINTS;
 use gf256::mul_add;
-use rs_stripe::find_weights;
+use rs_stripe::{find_divisors, find_weights};
 use sat_base::Share;
 
 // Chooses the first answers that aren't marked.
@@ -44,6 +44,19 @@ fn read_points(points: &[u8], places: &[usize], chosen: &mut [u8])
     }
 }
 
+// Adds `weight` times the bytes to the row. Where a row is one of the answers, all weights but one are
+// 0.
+fn add_multiple(row: &mut [u8], bytes: &[u8], weight: u8)
+    requires { length row.old ≡ length bytes.now }
+    ensures { (i : ℕ) → i < length bytes.now
+        → slice_index row.new i ≡ slice_index row.old i ⊕ weight ⊗ slice_index bytes.now i }
+{
+    if weight == 0 {
+        return;
+    }
+    mul_add(row, bytes, weight);
+}
+
 // Writes the linear combination of the chosen answers with these weights.
 fn combine(answers: &[Share], places: &[usize], weights: &[u8], row: &mut [u8])
     requires lengths { length weights.now ≡ length places.now }
@@ -57,7 +70,7 @@ fn combine(answers: &[Share], places: &[usize], weights: &[u8], row: &mut [u8])
 {
     row.fill(0);
     for j in 0..places.len() {
-        mul_add(row, answers[places[j]].bytes.as_slice(), weights[j]);
+        add_multiple(row, answers[places[j]].bytes.as_slice(), weights[j]);
     }
 }
 
@@ -76,10 +89,13 @@ fn rebuild(answers: &[Share], places: &[usize], points: &[u8], size: usize, stri
     requires stripe { length stripe.old ≡ length places.now * size }
     ensures { IsPredicted size answers.now places.now stripe.new }
 {
-    let mut room = [0; MOST_POINTS];
-    let weights = &mut room[..places.len()];
+    let mut divisors_room = [0; MOST_POINTS];
+    let mut weights_room = [0; MOST_POINTS];
+    let divisors = &mut divisors_room[..places.len()];
+    let weights = &mut weights_room[..places.len()];
+    find_divisors(points, divisors);
     for l in 0..places.len() {
-        find_weights(points, l as u8, weights);
+        find_weights(points, divisors, l as u8, weights);
         combine(
             answers,
             places,

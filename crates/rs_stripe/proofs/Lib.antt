@@ -1,2 +1,3 @@
 pub mod ShareLemmas
 pub mod SegmentLemmas
+pub mod Barycentric

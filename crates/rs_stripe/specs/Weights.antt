@@ -1,5 +1,5 @@
 -- A share as a sum of the data bytes, each times a number that the data do not change.
-use Rattle.std.specs.Prelude.{◌≡◌, ℕ}
+use Rattle.std.specs.Prelude.{◌≡◌, ℕ, ◌<◌}
 use Rattle.gf256.specs.Field.{◌⊗◌, inverse}
 use Rattle.gf256.specs.Sums.{total}
 use Rattle.gf_linear.specs.Lagrange.{basis}
@@ -16,3 +16,7 @@ weighted k w d = total k (λ i. w i ⊗ d i)
 -- w are the weights of share x of k data bytes
 abbrev pub AreWeights : ℕ → ℕ → (ℕ → ℕ) → Type 0
 AreWeights k x w = (d : ℕ → ℕ) → share k d x ≡ weighted k w d
+
+-- d are the divisors of the points X i for i below n
+abbrev pub AreDivisors : ℕ → (ℕ → ℕ) → (ℕ → ℕ) → Type 0
+AreDivisors n X d = (i : ℕ) → i < n → d i ≡ inverse (basis X n i (X i))

@@ -4,9 +4,10 @@ ghost use Rattle.gf256.specs.Field.{◌⊕◌, ◌⊗◌};
 ghost use Rattle.sat_base.specs.Scheme.{stripe_count};
 ghost use Rattle.rs_stripe.specs.Codeword.{share, IsShare};
 ghost use Rattle.rs_stripe.specs.Segment.{share_of, stripe_of, piece_of, tabulate};
-ghost use Rattle.rs_stripe.specs.Weights.{weighted, AreWeights};
+ghost use Rattle.rs_stripe.specs.Weights.{weighted, AreWeights, AreDivisors};
 
-use crate::interpolation::{MOST_SHARES, find_share_weights, indexes, interpolate};
+use crate::interpolation::{MOST_SHARES, indexes, interpolate};
+use crate::weights::{find_share_divisors, find_share_weights, weighted_sum};
 use gf256::mul_add;
 use sat_base::{Bytes, NoMemory, Scheme};
 use std::alloc::Global;
@@ -19,6 +20,19 @@ pub fn encode_column(scheme: &Scheme, column: &[u8], index: u8) -> u8
     ensures textbook { IsShare scheme.now.k (slice_index column.now) index result }
 {
     interpolate(indexes(column.len()), column, index)
+}
+
+/// The share that [`encode_column`] gives, by divisors of [`find_share_divisors`].
+pub fn encode_column_with(scheme: &Scheme, divisors: &[u8], column: &[u8], index: u8) -> u8
+    requires column { length column.now ≡ scheme.now.k }
+    requires found { length divisors.now ≡ scheme.now.k }
+    requires divisors { AreDivisors (length divisors.now) (λ i. i) (slice_index divisors.now) }
+    ensures { result ≡ share scheme.now.k (slice_index column.now) index }
+{
+    let mut room = [0; MOST_SHARES];
+    let weights = &mut room[..column.len()];
+    find_share_weights(divisors, index, weights);
+    weighted_sum(weights, column)
 }
 
 // Run `number` of bytes that are cut into runs of `size` bytes. It is shorter at the end of the
@@ -40,6 +54,9 @@ fn add_row(out: &mut [u8], row: &[u8], weight: u8)
     ensures { (c : ℕ) → c < length out.new
         → slice_index out.new c ≡ slice_index out.old c ⊕ weight ⊗ slice_index row.now c }
 {
+    if weight == 0 {
+        return;
+    }
     mul_add(&mut out[..row.len()], row, weight);
 }
 
@@ -67,8 +84,23 @@ pub fn encode_share(scheme: &Scheme, stripe: &[u8], index: u8, out: &mut [u8])
     ensures { out.new ≡ share_of scheme.now.k scheme.now.share stripe.now index }
 {
     let mut room = [0; MOST_SHARES];
+    let divisors = &mut room[..usize::from(scheme.k)];
+    find_share_divisors(divisors);
+    encode_share_with(scheme, divisors, stripe, index, out);
+}
+
+/// Writes the share that [`encode_share`] writes, by divisors of [`find_share_divisors`].
+pub fn encode_share_with(scheme: &Scheme, divisors: &[u8], stripe: &[u8], index: u8, out: &mut [u8])
+    requires found { length divisors.now ≡ scheme.now.k }
+    requires divisors { AreDivisors (length divisors.now) (λ i. i) (slice_index divisors.now) }
+    requires stripe { length stripe.now ≡ scheme.now.k * scheme.now.share }
+    requires out { length out.old ≡ scheme.now.share }
+    requires index { index < scheme.now.n }
+    ensures { out.new ≡ share_of scheme.now.k scheme.now.share stripe.now index }
+{
+    let mut room = [0; MOST_SHARES];
     let weights = &mut room[..usize::from(scheme.k)];
-    find_share_weights(index, weights);
+    find_share_weights(divisors, index, weights);
     combine_rows(weights, stripe, out);
 }
 
@@ -105,9 +137,13 @@ pub fn encode_piece(
     ensures len { IfOk result (λ p. length p
         ≡ stripe_count scheme.now.k scheme.now.share (length segment.now) * scheme.now.share) }
 {
-    let mut room = [0; MOST_SHARES];
-    let weights = &mut room[..usize::from(scheme.k)];
-    find_share_weights(index, weights);
+    let k = usize::from(scheme.k);
+    let mut divisors_room = [0; MOST_SHARES];
+    let mut weights_room = [0; MOST_SHARES];
+    let divisors = &mut divisors_room[..k];
+    let weights = &mut weights_room[..k];
+    find_share_divisors(divisors);
+    find_share_weights(divisors, index, weights);
     let len = segment.len() as u64;
     let mut piece = Vec::from_elem(alloc, 0, scheme.piece_len(len) as usize)?;
     encode_stripes(

@@ -8,6 +8,9 @@
 //! and byte c of its share j is share j of column c, the bytes c of the rows. A piece is the shares
 //! of one index of all stripes, in order (the stripes of the Storj v3 white paper).
 //!
+//! What is encoded or interpolated again and again goes by divisors that are found once
+//! ([`find_divisors`], [`find_share_divisors`]).
+//!
 //! Only [`encode_piece`] takes memory, for the piece.
 #![tactic(auto)]
 
@@ -16,7 +19,11 @@ mod interpolation;
 mod laws;
 #[cfg(test)]
 mod tests;
+mod weights;
 
-pub use encoding::{encode_column, encode_piece, encode_share};
-pub use interpolation::{find_weights, interpolate};
+pub use encoding::{
+    encode_column, encode_column_with, encode_piece, encode_share, encode_share_with,
+};
+pub use interpolation::interpolate;
 pub use laws::{one_share, share_is_data};
+pub use weights::{find_divisors, find_share_divisors, find_weights, interpolate_with};

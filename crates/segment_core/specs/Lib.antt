@@ -1,3 +1,4 @@
+pub mod Record
 pub mod Places
 pub mod Commit
 pub mod Health

@@ -1,6 +1,6 @@
-ghost use Rattle.segment_core.specs.Places.{IsByIndex};
-
+use ordered_rows::Ranked;
 use sat_base::{At, CustomerId, Items, SegId};
+use std::marker::Model;
 
 /// A segment, and where its pieces lie.
 ///
@@ -15,5 +15,29 @@ pub struct Segment {
     pub version: u64,
     /// Where its pieces lie, by rising index.
     pub pieces: Items<At>,
-    pub ghost by_index: { IsByIndex pieces },
+}
+
+impl Model for Segment {
+    ghost use Rattle.segment_core.specs.Record.{SegmentRecord};
+
+    ghost Value = { SegmentRecord };
+
+    ghost use Rattle.segment_core.specs.Places.{IsByIndex};
+
+    ghost view = { λ s. record { id = s.id; customer = s.customer; len = s.len; version = s.version; pieces = s.pieces } };
+
+    ghost invariant = { λ s. IsByIndex s.pieces };
+
+    ghost inverse = { λ s. record { id = s.id; customer = s.customer; len = s.len; version = s.version; pieces = s.pieces } };
+}
+
+/// By its id.
+impl Ranked for Segment {
+    ghost use Rattle.segment_core.specs.Record.{segment_rank};
+
+    ghost rank = { segment_rank };
+
+    fn rank(&self) -> u128 {
+        self.id.0 as u128
+    }
 }

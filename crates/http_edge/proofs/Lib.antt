@@ -1,0 +1,14 @@
+mod AddressLemmas
+mod BodyLemmas
+mod FetchLemmas
+mod FieldLemmas
+mod FloatLemmas
+mod HeadLaws
+mod HeadLemmas
+mod HeaderLemmas
+mod LengthLemmas
+mod NumberLemmas
+mod PathLemmas
+mod ReadingLemmas
+mod RequestLemmas
+mod SendLemmas

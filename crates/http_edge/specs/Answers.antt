@@ -1,0 +1,172 @@
+-- The bytes of answers: a status line, three headers, and a body in JSON.
+use Rattle.std.specs.Prelude.{ℕ, ◌+◌, ◌/◌, ◌%◌, List, [], ◌∷◌, ◌++◌, map, codes, decimal, length, unwrap_or, ◌==◌, if◌then◌else◌}
+use Rattle.hex.specs.Hex.{encode_lower}
+use Rattle.http.specs.StatusCode.{reason_phrase}
+use Rattle.order_limits.specs.Keys.{node_key, customer_key, serial_key}
+use Rattle.order_limits.specs.Order.{action_of, limit_bytes}
+use Rattle.order_limits.specs.declared.limit.Action.TheVariants as actions
+use Rattle.order_limits.specs.declared.limit.Limit.{Limit}
+use Rattle.machine_calls.specs.declared.reply.Reply.{Reply}
+use Rattle.machine_calls.specs.declared.reply.Reply.TheVariants as replies
+use Rattle.sat_base.specs.declared.requests.Done.{Done}
+use Rattle.sat_base.specs.declared.requests.Done.TheVariants as dones
+use Rattle.sat_base.specs.declared.requests.Offer.{Offer}
+use Rattle.sat_base.specs.declared.requests.Place.{Place}
+use Rattle.serde_json.specs.Data.{Data, string, array, object, member, no_members}
+use Rattle.serde_json.specs.View.{items_of}
+use Rattle.serde_json.specs.Written.{compact_text}
+use Rattle.http_edge.specs.Refusals.{whole, refusal_data, refusal_status}
+use Rattle.http_edge.specs.declared.wish.EdgeErr.{EdgeErr}
+use Rattle.http_edge.specs.declared.wish.EdgeErr.TheVariants as edges
+
+-- ---- the text
+
+abbrev pub crlf : List ℕ
+crlf = 13 ∷ 10 ∷ []
+
+-- the status line, the headers and the body
+abbrev pub parts_text : ℕ → List ℕ → ℕ → List ℕ → List ℕ
+parts_text status phrase size body =
+    codes "HTTP/1.1 " ++ decimal status ++ codes " " ++ phrase ++ crlf
+    ++ codes "content-type: application/json" ++ crlf
+    ++ codes "content-length: " ++ decimal size ++ crlf
+    ++ codes "connection: close" ++ crlf ++ crlf ++ body
+
+abbrev pub message : ℕ → Data → List ℕ
+message status d = parts_text status (unwrap_or (reason_phrase status) []) (length (compact_text d)) (compact_text d)
+
+-- ---- replies
+
+abbrev pub error_data : List ℕ → Data
+error_data name = object (member (codes "error") (string name) no_members)
+
+abbrev pub result_data : List ℕ → Data
+result_data how = object (member (codes "result") (string how) no_members)
+
+abbrev pub amount_data : ℕ → List ℕ → Data
+amount_data amount how = object (member (codes "amount") (whole amount) (member (codes "result") (string how) no_members))
+
+abbrev pub segment_data : ℕ → List ℕ → Data
+segment_data segment state = object (member (codes "segment") (whole segment) (member (codes "state") (string state) no_members))
+
+abbrev pub node_data : List ℕ → ℕ → Data
+node_data key node = object (member (codes "key") (string key) (member (codes "node") (whole node) no_members))
+
+abbrev pub customer_data : ℕ → List ℕ → Data
+customer_data customer key = object (member (codes "customer") (whole customer) (member (codes "key") (string key) no_members))
+
+-- four numbers, of which the first is the highest byte
+abbrev pub dotted : ℕ → List ℕ
+dotted addr =
+    decimal (addr / 16777216) ++ (codes "." ++ (decimal (addr / 65536 % 256) ++ (codes "." ++ (decimal (addr / 256 % 256)
+    ++ (codes "." ++ decimal (addr % 256))))))
+
+-- the limit that is offered for a place, which ends a day later
+abbrev pub limit_of : Offer → Place → Limit
+limit_of offer place = record {
+  action = unwrap_or (action_of offer.action) actions.Get;
+  serial = offer.serial;
+  node = place.node;
+  segment = offer.segment;
+  index = place.index;
+  limit = offer.piece_len;
+  issued = offer.issued;
+  expires = offer.issued + 86400;
+  customer = offer.customer;
+}
+
+abbrev pub spot_data : Place → List ℕ → Data
+spot_data place limit =
+    object (member (codes "addr") (string (dotted place.addr)) (member (codes "index") (whole place.index)
+    (member (codes "limit") (string limit) (member (codes "node") (whole place.node.0)
+    (member (codes "port") (whole place.port) no_members)))))
+
+abbrev pub place_data : List ℕ → Offer → Place → Data
+place_data secret offer place = spot_data place (encode_lower (limit_bytes secret (limit_of offer place)))
+
+abbrev pub offer_data : List ℕ → Offer → Data
+offer_data secret offer =
+    object (member (codes "expires") (whole (offer.issued + 86400)) (member (codes "issued") (whole offer.issued)
+    (member (codes "offers") (array (items_of (map (place_data secret offer) offer.places)))
+    (member (codes "piece_length") (whole offer.piece_len) (member (codes "segment") (whole offer.segment.0)
+    (member (codes "serial") (whole offer.serial.0)
+    (member (codes "serial_key") (string (encode_lower (serial_key secret offer.serial))) no_members)))))))
+
+abbrev pub done_data : List ℕ → Done → Data
+done_data secret (dones.NodeAdded node) = node_data (encode_lower (node_key secret node)) node.0
+done_data secret (dones.CustomerAdded customer) = customer_data customer.0 (encode_lower (customer_key secret customer))
+done_data secret (dones.Offer offer) = offer_data secret offer
+done_data secret (dones.Committed segment) = segment_data segment.0 (codes "live")
+done_data secret (dones.Deleted segment) = segment_data segment.0 (codes "deleted")
+
+abbrev pub reply_data : List ℕ → Reply → Data
+reply_data secret (replies.Done done) = done_data secret done
+reply_data secret (replies.Settled amount) = amount_data amount (codes "settled")
+reply_data secret (replies.Again amount) = amount_data amount (codes "again")
+reply_data secret replies.FreeSet = result_data (codes "set")
+reply_data secret replies.Stopping = result_data (codes "stopping")
+reply_data secret (replies.Refused refusal) = refusal_data refusal
+reply_data secret (replies.StoreFault before after) = error_data (codes "store")
+reply_data secret replies.NoMemory = error_data (codes "memory")
+
+abbrev pub reply_status : Reply → ℕ
+reply_status (replies.Done done) = 200
+reply_status (replies.Settled amount) = 200
+reply_status (replies.Again amount) = 200
+reply_status replies.FreeSet = 200
+reply_status replies.Stopping = 200
+reply_status (replies.Refused refusal) = refusal_status refusal
+reply_status (replies.StoreFault before after) = 503
+reply_status replies.NoMemory = 507
+
+-- the bytes of a reply's answer
+abbrev pub answer_text : List ℕ → Reply → List ℕ
+answer_text secret reply = message (reply_status reply) (reply_data secret reply)
+
+-- ---- refusals of the edge
+
+-- the name of the field of a place
+abbrev pub field_name : ℕ → List ℕ
+field_name place =
+    if place == 1 then codes "request" else (if place == 2 then codes "len" else (if place == 3 then codes "pieces" else
+    (if place == 4 then codes "order" else (if place == 5 then codes "free" else (if place == 6 then codes "addr" else
+    (if place == 7 then codes "port" else codes "month"))))))
+
+abbrev pub field_data : List ℕ → Data
+field_data name = object (member (codes "error") (string (codes "field")) (member (codes "field") (string name) no_members))
+
+abbrev pub edge_data : EdgeErr → Data
+edge_data edges.Head = error_data (codes "head")
+edge_data edges.Short = error_data (codes "short")
+edge_data edges.HeadSize = error_data (codes "head-size")
+edge_data edges.NoRoute = error_data (codes "no-route")
+edge_data edges.BadMethod = error_data (codes "method")
+edge_data edges.Key = error_data (codes "key")
+edge_data edges.Transfer = error_data (codes "transfer")
+edge_data edges.NoLength = error_data (codes "length")
+edge_data edges.BadLength = error_data (codes "length")
+edge_data edges.BodySize = error_data (codes "body-size")
+edge_data edges.ShortBody = error_data (codes "short")
+edge_data edges.Json = error_data (codes "json")
+edge_data (edges.Field place) = field_data (field_name place)
+edge_data edges.NoMemory = error_data (codes "memory")
+
+abbrev pub edge_status : EdgeErr → ℕ
+edge_status edges.Head = 400
+edge_status edges.Short = 400
+edge_status edges.HeadSize = 431
+edge_status edges.NoRoute = 404
+edge_status edges.BadMethod = 405
+edge_status edges.Key = 401
+edge_status edges.Transfer = 400
+edge_status edges.NoLength = 411
+edge_status edges.BadLength = 400
+edge_status edges.BodySize = 413
+edge_status edges.ShortBody = 400
+edge_status edges.Json = 400
+edge_status (edges.Field place) = 422
+edge_status edges.NoMemory = 507
+
+-- the bytes of the answer to an error of the edge
+abbrev pub edge_text : EdgeErr → List ℕ
+edge_text error = message (edge_status error) (edge_data error)

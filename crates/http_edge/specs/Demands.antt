@@ -1,0 +1,55 @@
+-- What a head alone says of a request, in the order of the errors.
+use Rattle.std.specs.Prelude.{◌≡◌, ◌≢◌, ℕ, List, [], ◌∷◌, map, codes, cond, nat_le, Bool, false, Option, Some, None, is_some, ◌≤◌}
+use Rattle.std.specs.Str.Parse.{digits_value}
+use Rattle.httparse.specs.Grammar.{RequestHead}
+use Rattle.httparse.specs.Spans.{name_and_value}
+use Rattle.http_edge.specs.Headers.{value_named, values_named, is_key}
+use Rattle.http_edge.specs.Numbers.{numeral}
+use Rattle.http_edge.specs.Paths.{IsPath}
+use Rattle.order_limits.specs.Keys.{node_key, customer_key, operator_key}
+use Rattle.http_edge.specs.declared.routes.Route.{Route}
+use Rattle.http_edge.specs.declared.routes.Route.TheVariants.{Begin, Commit, Get, Delete, Settle, SetFree, AddNode, AddCustomer, Stop}
+use Rattle.http_edge.specs.declared.wish.EdgeErr.TheVariants.{NoRoute, BadMethod, Key, Transfer, NoLength, BadLength, BodySize}
+use Rattle.http_edge.specs.declared.demand.Demand.{Demand}
+use Rattle.http_edge.specs.declared.demand.Demand.TheVariants.{Refused, Body}
+
+-- the key of the caller whom the route names
+abbrev pub key_of : List ℕ → Route → List ℕ
+key_of secret (Begin customer) = customer_key secret customer
+key_of secret (Commit customer segment) = customer_key secret customer
+key_of secret (Get customer segment) = customer_key secret customer
+key_of secret (Delete customer segment) = customer_key secret customer
+key_of secret (Settle node) = node_key secret node
+key_of secret (SetFree node) = node_key secret node
+key_of secret AddNode = operator_key secret
+key_of secret AddCustomer = operator_key secret
+key_of secret Stop = operator_key secret
+
+-- whether the first x-key header is the key
+abbrev pub is_key_of : List ℕ → Option (List ℕ) → Bool
+is_key_of key None = false
+is_key_of key (Some text) = is_key key text
+
+-- what the values of Content-Length say
+abbrev pub of_lengths : Route → List (List ℕ) → Demand
+of_lengths r [] = Refused NoLength
+of_lengths r (v ∷ []) = cond (numeral v) (cond (nat_le (digits_value 10 v) 65536) (Body r (digits_value 10 v)) (Refused BodySize)) (Refused BadLength)
+of_lengths r (v ∷ w ∷ vs) = Refused BadLength
+
+-- what the headers say
+abbrev pub of_headers : List ℕ → Route → List (List ℕ × List ℕ) → Demand
+of_headers secret r hs =
+    cond (is_key_of (key_of secret r) (value_named (codes "x-key") hs))
+    (cond (is_some (value_named (codes "transfer-encoding") hs)) (Refused Transfer) (of_lengths r (values_named (codes "content-length") hs)))
+    (Refused Key)
+
+-- the head's path has no route; or it has that one, with another method; or the headers decide
+pub data Demands (secret : List ℕ) (h : RequestHead) : Demand → Type 0 where
+  no_route : ((r : Route) → IsPath r h.target → ⊥) → Demands secret h (Refused NoRoute)
+  bad_method : (r : Route) → IsPath r h.target → h.method ≢ codes "POST" → Demands secret h (Refused BadMethod)
+  routed : (r : Route) → IsPath r h.target → h.method ≡ codes "POST" → Demands secret h (of_headers secret r (map name_and_value h.fields))
+
+-- the body is small enough
+abbrev pub IsSmall : Demand → Type 0
+IsSmall (Refused e) = Unit {0}
+IsSmall (Body r n) = n ≤ 65536

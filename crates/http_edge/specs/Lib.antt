@@ -1,0 +1,14 @@
+pub mod Address
+pub mod Answers
+pub mod Bodies
+pub mod Demands
+pub mod Fetches
+pub mod Fields
+pub mod Headers
+pub mod Heads
+pub mod Numbers
+pub mod Paths
+pub mod Refusals
+pub mod Requests
+pub mod RouteSteps
+pub mod Sending

@@ -1,0 +1,59 @@
+-- What the bytes of a connection ask: a wish, or an error.
+use Rattle.std.specs.Prelude.{◌≢◌, ℕ, ◌<◌, ◌≤◌, List, length, take, Result, Ok, Err, Bool, true, false}
+use Rattle.httparse.specs.Grammar.{RequestHead, NeverHasRequest}
+use Rattle.http_edge.specs.Demands.{Demands}
+use Rattle.http_edge.specs.Fields.{body_of}
+use Rattle.http_edge.specs.Heads.{max_head, HasHead, LacksHead}
+use Rattle.http_edge.specs.declared.demand.Demand.TheVariants.{Refused, Body}
+use Rattle.http_edge.specs.declared.fetch.BodyErr.{BodyErr}
+use Rattle.http_edge.specs.declared.fetch.BodyErr.TheVariants as fetches
+use Rattle.http_edge.specs.declared.routes.Route.{Route}
+use Rattle.http_edge.specs.declared.wish.EdgeErr.{EdgeErr}
+use Rattle.http_edge.specs.declared.wish.EdgeErr.TheVariants.{Head, Short, HeadSize, ShortBody, NoMemory}
+use Rattle.http_edge.specs.declared.wish.ReadErr.{ReadErr}
+use Rattle.http_edge.specs.declared.wish.ReadErr.TheVariants.{Fault, Edge}
+use Rattle.http_edge.specs.declared.wish.Wish.{Wish}
+
+-- what a body of that size says, at the front of the bytes behind a head
+pub data SaysBody (r : Route) (n : ℕ) (rest : List ℕ) : Result Wish EdgeErr → Type 0 where
+  short_body : length rest < n → SaysBody r n rest (Err ShortBody)
+  whole : n ≤ length rest → SaysBody r n rest (body_of r (take n rest))
+
+-- what a head and the bytes behind it say
+pub data SaysBehind (secret : List ℕ) (h : RequestHead) (rest : List ℕ) : Result Wish EdgeErr → Type 0 where
+  refused : (e : EdgeErr) → Demands secret h (Refused e) → SaysBehind secret h rest (Err e)
+  bodied : (r : Route) (n : ℕ) (said : Result Wish EdgeErr) → Demands secret h (Body r n) → SaysBody r n rest said → SaysBehind secret h rest said
+
+-- what the bytes of a connection say, where its end comes behind them: in the row of no_head the number of
+-- header lines isn't bounded
+pub data Says (secret bytes : List ℕ) : Result Wish EdgeErr → Type 0 where
+  no_head : NeverHasRequest (take max_head bytes) → Says secret bytes (Err Head)
+  short : LacksHead bytes → length bytes < max_head → Says secret bytes (Err Short)
+  long : LacksHead bytes → max_head ≤ length bytes → Says secret bytes (Err HeadSize)
+  headed : (h : RequestHead) (rest : List ℕ) (said : Result Wish EdgeErr) → HasHead bytes h rest → SaysBehind secret h rest said → Says secret bytes said
+
+-- the answer is what was said, unless a read failed or memory ran out
+abbrev pub AnswersOf : (Result Wish EdgeErr → Type 0) → Result Wish ReadErr → Type 0
+AnswersOf said (Ok w) = said (Ok w)
+AnswersOf said (Err Fault) = Unit {0}
+AnswersOf said (Err (Edge e)) = e ≢ NoMemory → said (Err e)
+
+abbrev pub Outcome : List ℕ → List ℕ → Result Wish ReadErr → Type 0
+Outcome secret bytes = AnswersOf (Says secret bytes)
+
+abbrev pub BehindHead : List ℕ → RequestHead → List ℕ → Result Wish ReadErr → Type 0
+BehindHead secret h rest = AnswersOf (SaysBehind secret h rest)
+
+abbrev pub IsBodyOutcome : Route → ℕ → List ℕ → Result Wish ReadErr → Type 0
+IsBodyOutcome r n rest = AnswersOf (SaysBody r n rest)
+
+abbrev pub failed_request : Result Wish ReadErr → Bool
+failed_request (Ok w) = false
+failed_request (Err (Edge e)) = false
+failed_request (Err Fault) = true
+
+-- the error where there is no body
+abbrev pub unread_as : BodyErr → ReadErr
+unread_as fetches.Short = Edge ShortBody
+unread_as fetches.Fault = Fault
+unread_as fetches.NoMemory = Edge NoMemory

@@ -1,0 +1,119 @@
+// One request of a connection.
+ghost use Rattle.std.specs.Prelude.{◌≡◌, ◌≤◌, ℕ, List, ◌++◌, length, drop, Some};
+ghost use Rattle.httparse.specs.Grammar.{RequestHead};
+ghost use Rattle.httparse.specs.Spans.{IsRequestAt, IsRequestWithin};
+ghost use Rattle.sat_base.specs.Outside.{with_front, Counts};
+ghost use Rattle.http_edge.specs.Heads.{max_head, max_lines};
+ghost use Rattle.http_edge.specs.Requests.{Outcome, BehindHead, IsBodyOutcome, unread_as, failed_request};
+
+use crate::demand::{Demand, demand_of};
+use crate::fetch::{BodyErr, fetch_body};
+use crate::fields::wish_of;
+use crate::head::{HeadEnd, read_head};
+use crate::routes::Route;
+use crate::wish::{EdgeErr, ReadErr, Wish};
+use httparse::spans::{EMPTY_HEADER_SPAN, HeaderSpan, RequestSpans};
+use order_limits::Keys;
+use sat_base::Source;
+use std::alloc::Global;
+
+/// Reads one request: a head of at most 8192 bytes and 64 header lines (RFC 9112), and then just the rest of
+/// its body (RFC 8259), of at most 65536 bytes. Where the source tells its bytes, the answer is what all bytes
+/// that were left say.
+pub fn read_request<S: Source>(alloc: Global, source: &mut S, keys: &Keys) -> Result<Wish, ReadErr>
+    ensures outcome { (all : List ℕ) → S.left source.old ≡ Some all → Outcome keys.now all result }
+    ensures took { (bytes : List ℕ) × (S.left source.old ≡ with_front bytes (S.left source.new)) × (length bytes ≤ 73728) }
+    ensures faults { Counts (failed_request result) (S.read_faults source.old) (S.read_faults source.new) }
+    ensures written { S.written source.new ≡ S.written source.old }
+    ensures write_faults { S.write_faults source.new ≡ S.write_faults source.old }
+{
+    let Ok(mut buf) = vec![in alloc; 0u8; 8192] else {
+        return Err(ReadErr::Edge(EdgeErr::NoMemory));
+    };
+    let mut headers = [EMPTY_HEADER_SPAN; 64];
+    read_into(alloc, source, keys, &mut buf, &mut headers)
+}
+
+// Reads one request, its head into the buffers.
+fn read_into<S: Source>(
+    alloc: Global,
+    source: &mut S,
+    keys: &Keys,
+    buf: &mut [u8],
+    headers: &mut [HeaderSpan],
+) -> Result<Wish, ReadErr>
+    requires size { length buf.now ≡ max_head }
+    requires lines { length headers.now ≡ max_lines }
+    ensures outcome { (all : List ℕ) → S.left source.old ≡ Some all → Outcome keys.now all result }
+    ensures took { (bytes : List ℕ) × (S.left source.old ≡ with_front bytes (S.left source.new)) × (length bytes ≤ 73728) }
+    ensures faults { Counts (failed_request result) (S.read_faults source.old) (S.read_faults source.new) }
+    ensures written { S.written source.new ≡ S.written source.old }
+    ensures write_faults { S.write_faults source.new ≡ S.write_faults source.old }
+{
+    let read = read_head(source, buf, headers);
+    match read.end {
+        HeadEnd::Whole(spans) => behind_head(alloc, source, keys, &buf[..read.got], headers, spans),
+        HeadEnd::Never => Err(ReadErr::Edge(EdgeErr::Head)),
+        HeadEnd::Ended => Err(ReadErr::Edge(EdgeErr::Short)),
+        HeadEnd::Full => Err(ReadErr::Edge(EdgeErr::HeadSize)),
+        HeadEnd::Fault => Err(ReadErr::Fault),
+    }
+}
+
+// What the head and the bytes behind it say.
+fn behind_head<S: Source>(
+    alloc: Global,
+    source: &mut S,
+    keys: &Keys,
+    read: &[u8],
+    headers: &[HeaderSpan],
+    spans: RequestSpans,
+) -> Result<Wish, ReadErr>
+    requires { IsRequestWithin read.now headers.now spans }
+    ensures outcome { (left : List ℕ) → S.left source.old ≡ Some left → (h : RequestHead)
+        → IsRequestAt read.now headers.now spans h → BehindHead keys.now h (drop spans.len read.now ++ left) result }
+    ensures took { (bytes : List ℕ) × (S.left source.old ≡ with_front bytes (S.left source.new)) × (length bytes ≤ 65536) }
+    ensures faults { Counts (failed_request result) (S.read_faults source.old) (S.read_faults source.new) }
+    ensures written { S.written source.new ≡ S.written source.old }
+    ensures write_faults { S.write_faults source.new ≡ S.write_faults source.old }
+{
+    match demand_of(keys, read, headers, spans) {
+        Demand::Refused(e) => Err(ReadErr::Edge(e)),
+        Demand::Body(route, size) => with_body(alloc, source, route, &read[spans.len..], size),
+    }
+}
+
+// What the body says.
+fn with_body<S: Source>(
+    alloc: Global,
+    source: &mut S,
+    route: Route,
+    read: &[u8],
+    size: usize,
+) -> Result<Wish, ReadErr>
+    requires { size ≤ 65536 }
+    ensures outcome { (left : List ℕ) → S.left source.old ≡ Some left → IsBodyOutcome route size (read.now ++ left) result }
+    ensures took { (bytes : List ℕ) × (S.left source.old ≡ with_front bytes (S.left source.new)) × (length bytes ≤ 65536) }
+    ensures faults { Counts (failed_request result) (S.read_faults source.old) (S.read_faults source.new) }
+    ensures written { S.written source.new ≡ S.written source.old }
+    ensures write_faults { S.write_faults source.new ≡ S.write_faults source.old }
+{
+    match fetch_body(alloc, source, read, size) {
+        Ok(body) => match wish_of(alloc, route, &body) {
+            Ok(wish) => Ok(wish),
+            Err(e) => Err(ReadErr::Edge(e)),
+        },
+        Err(e) => Err(unread(e)),
+    }
+}
+
+// The error where there is no body.
+fn unread(e: BodyErr) -> ReadErr
+    ensures { result ≡ unread_as e }
+{
+    match e {
+        BodyErr::Short => ReadErr::Edge(EdgeErr::ShortBody),
+        BodyErr::Fault => ReadErr::Fault,
+        BodyErr::NoMemory => ReadErr::Edge(EdgeErr::NoMemory),
+    }
+}

@@ -1,0 +1,12 @@
+pub mod StatementTexts
+pub mod ValueTests
+pub mod StoredRows
+pub mod TableEdits
+pub mod DataStatements
+pub mod Querying
+pub mod LoadedRows
+pub mod LastCommit
+pub mod MadeChanges
+pub mod TableCreation
+pub mod RowOrder
+pub mod OpenedFiles

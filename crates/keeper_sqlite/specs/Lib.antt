@@ -1,0 +1,7 @@
+pub mod Table
+pub mod Records
+pub mod Transitions
+pub mod Crash
+pub mod Answers
+pub mod Opened
+pub mod Shown

@@ -1,0 +1,64 @@
+use sat_base::{Bytes, CustomerId, Indexes, Moment, NodeId, SegId, Words64};
+
+/// What the machine is asked. `now` is the moment that its caller's clock gave; the machine takes no moment that is
+/// earlier than one it has taken.
+#[derive(Debug, PartialEq, Eq, Drop)]
+pub enum Call {
+    /// The operator adds a node, by its IPv4 address and the bytes that it says are free.
+    AddNode {
+        now: Moment,
+        request: u64,
+        addr: u32,
+        port: u16,
+        free: u64,
+    },
+    /// The operator adds a customer.
+    AddCustomer {
+        now: Moment,
+        request: u64,
+    },
+    /// A customer asks for places for the pieces of a segment of `len` bytes. There are 128 random words.
+    Begin {
+        now: Moment,
+        customer: CustomerId,
+        request: u64,
+        len: u64,
+        words: Words64,
+    },
+    /// A customer has stored the pieces of these indexes.
+    Commit {
+        now: Moment,
+        customer: CustomerId,
+        request: u64,
+        segment: SegId,
+        indexes: Indexes,
+    },
+    /// A customer asks where the pieces of a segment lie.
+    Get {
+        now: Moment,
+        customer: CustomerId,
+        request: u64,
+        segment: SegId,
+    },
+    /// A customer has no more use for a segment.
+    Delete {
+        now: Moment,
+        customer: CustomerId,
+        request: u64,
+        segment: SegId,
+    },
+    /// A node presents an order.
+    Settle {
+        now: Moment,
+        node: NodeId,
+        bytes: Bytes,
+    },
+    /// A node says how many bytes are free.
+    SetFree {
+        now: Moment,
+        node: NodeId,
+        free: u64,
+    },
+    /// The operator stops the machine.
+    Stop,
+}

@@ -1,0 +1,10 @@
+pub mod RowLemmas
+pub mod Refusals
+pub mod RepeatLemmas
+pub mod Outcomes
+pub mod PickLemmas
+pub mod GrowthLemmas
+pub mod PieceLemmas
+pub mod RuleSteps
+pub mod SettleLemmas
+pub mod RuleCases

@@ -1,0 +1,29 @@
+-- A refusal changes nothing.
+use Rattle.std.proofs.Common.{◌≡◌, ℕ, Bool, true, false, List, [], refl, ap, ◌∙◌, arith}
+use Rattle.std.specs.Prelude.{◌||◌}
+use Rattle.std.proofs.lemmas.Bool.Decides.{nat_tests}
+use Rattle.machine_calls.specs.declared.call.Call.{Call}
+use Rattle.machine_calls.specs.declared.call.Call.TheVariants as calls
+use Rattle.machine_calls.specs.declared.refusal.Refusal.{Refusal}
+use Rattle.machine_calls.specs.declared.reply.Reply.TheVariants as replies
+use Rattle.machine_step.specs.Tables.{Tables, all_changed}
+use Rattle.machine_step.specs.Step.{step, case_of, after, is_stopping}
+
+refusal_case : (t : Tables) (call : Call) (cause : Refusal) → (case_of t call).reply ≡ replies.Refused cause → (case_of t call).changes ≡ []
+refusal_case t (calls.AddNode now request addr port free) cause h = grind (arith, nat_tests)
+refusal_case t (calls.AddCustomer now request) cause h = grind (arith, nat_tests)
+refusal_case t (calls.Begin now customer request len words) cause h = grind (arith, nat_tests)
+refusal_case t (calls.Commit now customer request segment indexes) cause h = grind (arith, nat_tests)
+refusal_case t (calls.Get now customer request segment) cause h = grind (arith, nat_tests)
+refusal_case t (calls.Delete now customer request segment) cause h = grind (arith, nat_tests)
+refusal_case t (calls.Settle now node bytes) cause h = grind (arith, nat_tests)
+refusal_case t (calls.SetFree now node free) cause h = grind (arith, nat_tests)
+refusal_case t calls.Stop cause h = refl
+
+pub refusal_step : (t : Tables) (call : Call) (cause : Refusal) → (step t call).reply ≡ replies.Refused cause → after t call ≡ t
+refusal_step t call cause h =
+    let none : (step t call).changes ≡ [] = grind (arith, refusal_case t call cause) in
+    let going : is_stopping (step t call).reply ≡ false = ap is_stopping h in
+    let or_false : (b : Bool) → (b || false) ≡ b = λ b. elim b as (λ v. (v || false) ≡ v) [ true ↦ refl | false ↦ refl ] in
+    ap (λ cs. record (all_changed t cs) { stopped = (all_changed t cs).stopped || is_stopping (step t call).reply }) none
+    ∙ ap (λ b. record t { stopped = t.stopped || b }) going ∙ ap (λ b. record t { stopped = b }) (or_false t.stopped)

@@ -1,0 +1,230 @@
+-- The rules that the tables keep at every moment, and the first of them that given tables break.
+use Rattle.std.specs.Prelude.{◌≡◌, ℕ, suc, ◌+◌, ◌/◌, ◌^◌, Bool, true, false, ◌==◌, ◌&&◌, ◌||◌, not, nat_lt, nat_le, if◌then◌else◌, List, [], ◌∷◌, ◌++◌, length, map, min, Option, Some, None, is_some, is_none}
+use Rattle.std.specs.Option.{option_map}
+use Rattle.std.specs.List.{list_any, list_all}
+use Rattle.std.specs.Int.{w32, w64, to_be_bytes}
+use Rattle.sat_base.specs.declared.ids.NodeId.{NodeId}
+use Rattle.sat_base.specs.declared.ids.CustomerId.{CustomerId}
+use Rattle.sat_base.specs.declared.records.At.{At}
+use Rattle.sat_base.specs.declared.settings.Marks.{Marks}
+use Rattle.sat_base.specs.declared.settings.Customer.{Customer}
+use Rattle.sat_base.specs.declared.requests.Asked.{Asked}
+use Rattle.sat_base.specs.declared.requests.Asked.TheVariants as asks
+use Rattle.sat_base.specs.declared.requests.Done.{Done}
+use Rattle.sat_base.specs.declared.requests.Done.TheVariants as dones
+use Rattle.sat_base.specs.declared.requests.Offer.{Offer}
+use Rattle.sat_base.specs.declared.requests.Kept.{Kept}
+use Rattle.sat_base.specs.declared.rates.Tariff.{Tariff}
+use Rattle.sat_base.specs.Month.{first_day}
+use Rattle.ordered_rows.specs.Ranks.{tariff_rank, kept_rank}
+use Rattle.ordered_rows.specs.Rows.{row_at, IsRising}
+use Rattle.node_registry.specs.declared.node.Node.{Node}
+use Rattle.node_registry.specs.Registry.{node_at}
+use Rattle.segment_core.specs.Record.{SegmentRecord, segment_rank}
+use Rattle.settlement.specs.declared.row.SettledRow.{SettledRow}
+use Rattle.settlement.specs.Rows.{key}
+use Rattle.machine_step.specs.Tables.{Setup, Tables, is_no_size, customer_at}
+use Rattle.machine_step.specs.Places.{addr_of}
+
+-- the first row that breaks a rule, which may speak of the row's place; places begin at i
+abbrev pub first_bad : {R : Type 0} → (ℕ → R → Bool) → ℕ → List R → Option R
+first_bad bad i [] = None
+first_bad bad i (row ∷ rest) = if bad i row then Some row else first_bad bad (suc i) rest
+
+abbrev pub is_known : List Node → NodeId → Bool
+is_known nodes id = is_some (node_at nodes id)
+
+-- ---- rule 1: the marks
+
+-- a month has begun at a moment
+abbrev pub has_begun : ℕ → ℕ → Bool
+has_begun month at = nat_le (first_day month) (at / 86400)
+
+-- a next number is 1 to 2^63
+abbrev pub is_next_number : ℕ → Bool
+is_next_number number = nat_le 1 number && nat_le number (2 ^ 63)
+
+-- the next month to close is no earlier than the first one, and has begun; the least hour to tally is at most the next one; and the next numbers are in range
+abbrev pub are_sound_marks : Setup → Marks → Bool
+are_sound_marks setup marks =
+    nat_le setup.first_month marks.month.0 && (has_begun marks.month.0 marks.time
+    && (nat_le marks.hour.0 (marks.time / 3600 + 1)
+    && (is_next_number marks.segment && (is_next_number marks.serial && is_next_number marks.plan))))
+
+-- ---- rule 2: the nodes
+
+abbrev pub is_rated : Node → Bool
+is_rated node = nat_le node.alpha 20000 && (nat_le node.beta 20000 && nat_le 1000 (node.alpha + node.beta))
+
+-- ids are 1 to their number, which is at most the cap; the weights are in bounds; and none joined after the greatest moment
+abbrev pub breaks_node : Setup → Marks → ℕ → Node → Bool
+breaks_node setup marks i node =
+    not (node.id.0 == suc i) || (nat_le setup.caps.nodes i || (not (is_rated node) || nat_lt marks.time node.joined))
+
+-- ---- rule 3: the customers
+
+-- ids are 1 to their number, which is at most the cap, and none was added after the greatest moment
+abbrev pub breaks_customer : Setup → Marks → ℕ → Customer → Bool
+breaks_customer setup marks i customer =
+    not (customer.id.0 == suc i) || (nat_le setup.caps.customers i || nat_lt marks.time customer.added)
+
+-- ---- rule 4: the segments
+
+abbrev pub are_known : List Node → List At → Bool
+are_known nodes pieces = list_all (λ piece. is_known nodes piece.node) pieces
+
+-- the subnets of the nodes that pieces lie on
+abbrev pub subnets_of : List Node → List At → List ℕ
+subnets_of nodes pieces = map (λ piece. addr_of (node_at nodes piece.node) / 256) pieces
+
+-- none comes twice
+abbrev pub are_apart : List ℕ → Bool
+are_apart [] = true
+are_apart (subnet ∷ rest) = not (list_any (λ other. subnet == other) rest) && are_apart rest
+
+abbrev pub are_below : ℕ → List At → Bool
+are_below n pieces = list_all (λ piece. nat_lt piece.index n) pieces
+
+-- the indexes count up from i to n
+abbrev pub counts_up : ℕ → ℕ → List At → Bool
+counts_up n i [] = i == n
+counts_up n i (piece ∷ rest) = (piece.index == i) && counts_up n (suc i) rest
+
+-- a pending segment has the indexes 0 to n - 1, and a live one enough pieces and a version that plans can have made
+abbrev pub is_sound_version : Setup → Marks → SegmentRecord → Bool
+is_sound_version setup marks segment =
+    if segment.version == 0 then counts_up setup.n 0 segment.pieces
+    else nat_le segment.version marks.plan && nat_le setup.k (length segment.pieces)
+
+abbrev pub is_sound_segment : Setup → Marks → List Node → List Customer → SegmentRecord → Bool
+is_sound_segment setup marks nodes customers segment =
+    nat_lt segment.id.0 marks.segment && (is_some (customer_at customers segment.customer.0)
+    && (not (is_no_size setup segment.len) && (are_known nodes segment.pieces
+    && (are_apart (subnets_of nodes segment.pieces) && (are_below setup.n segment.pieces
+    && is_sound_version setup marks segment)))))
+
+-- they number at most the cap
+abbrev pub breaks_segment : Setup → Marks → List Node → List Customer → ℕ → SegmentRecord → Bool
+breaks_segment setup marks nodes customers i segment =
+    nat_le setup.caps.segments i || not (is_sound_segment setup marks nodes customers segment)
+
+-- ---- rule 5: the settled rows
+
+abbrev pub is_sound_settled : Marks → List Node → SettledRow → Bool
+is_sound_settled marks nodes row = is_known nodes row.node && nat_le row.at marks.time
+
+-- they number at most the cap
+abbrev pub breaks_settled : Setup → Marks → List Node → ℕ → SettledRow → Bool
+breaks_settled setup marks nodes i row = nat_le setup.caps.settled i || not (is_sound_settled marks nodes row)
+
+-- ---- rule 10: the kept requests
+
+-- nodes and customers are added by the operator, and the rest is asked by a known customer
+abbrev pub is_callers : List Customer → CustomerId → Asked → Bool
+is_callers customers caller (asks.Node addr port free) = caller.0 == 0
+is_callers customers caller asks.Customer = caller.0 == 0
+is_callers customers caller _ = is_some (customer_at customers caller.0)
+
+-- a request names a segment that was numbered
+abbrev pub is_sound_asked : Marks → Asked → Bool
+is_sound_asked marks (asks.Commit segment indexes) = nat_lt segment.0 marks.segment
+is_sound_asked marks (asks.Get segment) = nat_lt segment.0 marks.segment
+is_sound_asked marks (asks.Delete segment) = nat_lt segment.0 marks.segment
+is_sound_asked marks _ = true
+
+-- an offer is the caller's, of numbers that were drawn, at known nodes, and not of a later moment
+abbrev pub is_sound_offer : Marks → List Node → CustomerId → Offer → Bool
+is_sound_offer marks nodes caller offer =
+    list_all (λ place. is_known nodes place.node) offer.places && (nat_lt offer.serial.0 marks.serial
+    && (nat_lt offer.segment.0 marks.segment && ((offer.customer.0 == caller.0) && nat_le offer.issued marks.time)))
+
+-- the reply fits the request: actions are those of a put, 1, and of a get, 2
+abbrev pub is_sound_done : Marks → List Node → CustomerId → Asked → Done → Bool
+is_sound_done marks nodes caller (asks.Node addr port free) (dones.NodeAdded node) = is_known nodes node
+is_sound_done marks nodes caller asks.Customer (dones.CustomerAdded customer) = true
+is_sound_done marks nodes caller (asks.Begin len) (dones.Offer offer) = (offer.action == 1) && is_sound_offer marks nodes caller offer
+is_sound_done marks nodes caller (asks.Commit segment indexes) (dones.Committed live) = nat_lt live.0 marks.segment
+is_sound_done marks nodes caller (asks.Get segment) (dones.Offer offer) = (offer.action == 2) && is_sound_offer marks nodes caller offer
+is_sound_done marks nodes caller (asks.Delete segment) (dones.Deleted gone) = nat_lt gone.0 marks.segment
+is_sound_done marks nodes caller _ _ = false
+
+abbrev pub is_sound_kept : Marks → List Node → List Customer → Kept → Bool
+is_sound_kept marks nodes customers kept =
+    is_callers customers kept.caller kept.asked && (is_sound_asked marks kept.asked && is_sound_done marks nodes kept.caller kept.asked kept.done)
+
+abbrev pub breaks_kept : Marks → List Node → List Customer → ℕ → Kept → Bool
+breaks_kept marks nodes customers i kept = not (is_sound_kept marks nodes customers kept)
+
+-- ---- rule 13: the tariffs
+
+-- the months of tariffs before the first month, and of those past the most that a store has
+abbrev pub bad_tariffs : ℕ → ℕ → List Tariff → List ℕ
+bad_tariffs first i [] = []
+bad_tariffs first i (tariff ∷ rest) =
+    if nat_lt tariff.from.0 first || nat_le 4096 i then tariff.from.0 ∷ bad_tariffs first (suc i) rest
+    else bad_tariffs first (suc i) rest
+
+-- the first month, where no tariff begins in it
+abbrev pub missing_tariff : ℕ → List Tariff → List ℕ
+missing_tariff first tariffs = if is_some (row_at tariff_rank tariffs first) then [] else first ∷ []
+
+abbrev pub least_with : ℕ → Option ℕ → ℕ
+least_with x None = x
+least_with x (Some y) = min x y
+
+abbrev pub least : List ℕ → Option ℕ
+least [] = None
+least (x ∷ rest) = Some (least_with x (least rest))
+
+-- the first month whose tariff breaks the rule or is missing
+abbrev pub bad_tariff : ℕ → List Tariff → Option ℕ
+bad_tariff first tariffs = least (bad_tariffs first 0 tariffs ++ missing_tariff first tariffs)
+
+-- ---- all of them
+
+-- the tables keep every rule
+pub record IsSound (t : Tables) : Type 0 where
+  pub marks : are_sound_marks t.setup t.marks ≡ true
+  pub nodes : first_bad (breaks_node t.setup t.marks) 0 t.nodes ≡ None
+  pub customers : first_bad (breaks_customer t.setup t.marks) 0 t.customers ≡ None
+  pub segments : first_bad (breaks_segment t.setup t.marks t.nodes t.customers) 0 t.segments ≡ None
+  pub settled : first_bad (breaks_settled t.setup t.marks t.nodes) 0 t.settled ≡ None
+  pub kept : first_bad (breaks_kept t.marks t.nodes t.customers) 0 t.kept ≡ None
+  pub tariffs : bad_tariff t.setup.first_month t.tariffs ≡ None
+
+-- the rows stand in the order of their ids
+pub record IsOrdered (t : Tables) : Type 0 where
+  pub segments : IsRising segment_rank t.segments
+  pub settled : IsRising key t.settled
+  pub kept : IsRising kept_rank t.kept
+  pub tariffs : IsRising tariff_rank t.tariffs
+
+-- a rule that is broken, and the first record that breaks it: its kind, and its id's bytes
+pub record Broken : Type 0 where
+  pub rule : ℕ
+  pub kind : ℕ
+  pub id : List ℕ
+
+abbrev pub broken : ℕ → ℕ → List ℕ → Broken
+broken rule kind id = record { rule = rule; kind = kind; id = id }
+
+abbrev pub or_else : Option Broken → Option Broken → Option Broken
+or_else None other = other
+or_else (Some first) other = Some first
+
+abbrev pub broken_marks : Setup → Marks → Option Broken
+broken_marks setup marks = if are_sound_marks setup marks then None else Some (broken 1 2 [])
+
+abbrev pub settled_id : SettledRow → List ℕ
+settled_id row = to_be_bytes w64 row.serial.0 ++ to_be_bytes w32 row.node.0
+
+-- the least rule that is broken
+abbrev pub first_broken : Tables → Option Broken
+first_broken t =
+    or_else (broken_marks t.setup t.marks)
+    (or_else (option_map (λ node. broken 2 3 (to_be_bytes w32 node.id.0)) (first_bad (breaks_node t.setup t.marks) 0 t.nodes))
+    (or_else (option_map (λ customer. broken 3 4 (to_be_bytes w32 customer.id.0)) (first_bad (breaks_customer t.setup t.marks) 0 t.customers))
+    (or_else (option_map (λ segment. broken 4 5 (to_be_bytes w64 segment.id.0)) (first_bad (breaks_segment t.setup t.marks t.nodes t.customers) 0 t.segments))
+    (or_else (option_map (λ row. broken 5 6 (settled_id row)) (first_bad (breaks_settled t.setup t.marks t.nodes) 0 t.settled))
+    (or_else (option_map (λ kept. broken 10 13 (to_be_bytes w32 kept.caller.0)) (first_bad (breaks_kept t.marks t.nodes t.customers) 0 t.kept))
+    (option_map (λ month. broken 13 16 (to_be_bytes w32 month)) (bad_tariff t.setup.first_month t.tariffs)))))))

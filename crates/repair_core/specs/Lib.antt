@@ -1,0 +1,10 @@
+pub mod Answers
+pub mod Indexes
+pub mod Stripes
+pub mod Rebuilt
+pub mod Room
+pub mod Progress
+pub mod Windows
+pub mod Kept
+pub mod Held
+pub mod Refusals

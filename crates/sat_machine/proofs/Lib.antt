@@ -1,0 +1,6 @@
+pub mod StoreLemmas
+pub mod NodeLemmas
+pub mod PieceLemmas
+pub mod StepLemmas
+pub mod CaseLemmas
+pub mod OpeningLemmas

@@ -1,0 +1,4 @@
+pub mod Store
+pub mod Prepared
+pub mod Machine
+pub mod Opening

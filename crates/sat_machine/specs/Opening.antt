@@ -1,0 +1,74 @@
+-- What comes of records of which a machine is to be made.
+use Rattle.std.specs.Prelude.{◌≡◌, ℕ, ◌≤◌, false, List, [], ◌∷◌, length, Option, Some, None, Result, Ok, Err}
+use Rattle.sat_base.specs.declared.settings.Settings.{Settings}
+use Rattle.sat_base.specs.declared.settings.Marks.{Marks}
+use Rattle.ordered_rows.specs.Ranks.{customer_rank, kept_rank, tariff_rank}
+use Rattle.ordered_rows.specs.Rows.{IsRising}
+use Rattle.segment_core.specs.Record.{segment_rank}
+use Rattle.settlement.specs.Rows.{key}
+use Rattle.machine_calls.specs.declared.parts.Parts0.{Parts0}
+use Rattle.machine_step.specs.Tables.{Tables, setup_of}
+use Rattle.machine_step.specs.Bounds.{Each, IsSetupWithin, AreMarksWithin, IsSegmentWithin, IsKeptWithin, IsTariffWithin}
+use Rattle.machine_step.specs.Rules.{Broken, broken, first_broken}
+use Rattle.sat_machine.specs.declared.opening.CoreErr.{CoreErr}
+use Rattle.sat_machine.specs.declared.opening.CoreErr.TheVariants as errs
+
+-- the lists stand in the order of their ids, none of which comes twice, and each record is within its bounds
+pub record AreParts (parts : Parts0) : Type 0 where
+  pub one_setup : length parts.settings.items ≤ 1
+  pub one_marks : length parts.marks.items ≤ 1
+  pub customers : IsRising customer_rank parts.customers.items
+  pub segments : IsRising segment_rank parts.segments.items
+  pub settled : IsRising key parts.settled.items
+  pub kept : IsRising kept_rank parts.kept.items
+  pub tariffs : IsRising tariff_rank parts.tariffs.items
+  pub setup_within : Each (λ (s : Settings). IsSetupWithin (setup_of s)) parts.settings.items
+  pub marks_within : Each AreMarksWithin parts.marks.items
+  pub segments_within : Each IsSegmentWithin parts.segments.items
+  pub kept_within : Each IsKeptWithin parts.kept.items
+  pub tariffs_within : Each IsTariffWithin parts.tariffs.items
+
+-- the tables of these records
+abbrev pub tables_made : Settings → Marks → Parts0 → Tables
+tables_made settings marks parts = record {
+  setup = setup_of settings;
+  marks = marks;
+  nodes = parts.nodes.items;
+  customers = parts.customers.items;
+  segments = parts.segments.items;
+  settled = parts.settled.items;
+  kept = parts.kept.items;
+  tariffs = parts.tariffs.items;
+  stopped = false;
+}
+
+-- the least rule that the records break: settings and marks are there, and the tables keep their rules
+abbrev pub first_broken_with : List Settings → List Marks → Parts0 → Option Broken
+first_broken_with [] marks parts = Some (broken 1 1 [])
+first_broken_with (settings ∷ _) [] parts = Some (broken 1 2 [])
+first_broken_with (settings ∷ _) (marks ∷ _) parts = first_broken (tables_made settings marks parts)
+
+abbrev pub first_broken_of : Parts0 → Option Broken
+first_broken_of parts = first_broken_with parts.settings.items parts.marks.items parts
+
+-- the tables are those of the records
+abbrev pub AreTablesWith : List Settings → List Marks → Parts0 → Tables → Type 0
+AreTablesWith (settings ∷ _) (marks ∷ _) parts t = t ≡ tables_made settings marks parts
+AreTablesWith _ _ parts t = ⊥
+
+abbrev pub AreTablesOf : Parts0 → Tables → Type 0
+AreTablesOf parts t = AreTablesWith parts.settings.items parts.marks.items parts t
+
+-- an error names what is broken, or memory is wanting
+abbrev pub Names : CoreErr → Broken → Type 0
+Names (errs.Rule rule kind id) b = broken rule kind id ≡ b
+Names errs.NoMemory b = Unit {0}
+
+-- a test answers Ok where nothing is broken, and otherwise names what is
+abbrev pub NamesSome : CoreErr → Option Broken → Type 0
+NamesSome (errs.Rule rule kind id) o = o ≡ Some (broken rule kind id)
+NamesSome errs.NoMemory o = Unit {0}
+
+abbrev pub Tests : {T : Type 0} → Result T CoreErr → Option Broken → Type 0
+Tests (Ok done) o = o ≡ None
+Tests (Err err) o = NamesSome err o
