@@ -81,4 +81,5 @@ def main(words):
     sys.stdout.write("".join(lines))
 
 
-main(sys.argv[1:])
+if __name__ == "__main__":
+    main(sys.argv[1:])

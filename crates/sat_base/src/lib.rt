@@ -27,7 +27,7 @@ mod settings;
 mod words;
 
 pub use clock::{Clock, MemClock};
-pub use console::MemConsole;
+pub use console::{MemConsole, MemLink};
 pub use ids::{CustomerId, NodeId, SegId, Serial};
 pub use items::{Bytes, Indexes, Items, Share, Words64};
 pub use keeper::{Committed, Keeper, Loaded};

@@ -7,3 +7,5 @@ pub mod Judge
 pub mod Run
 pub mod Question
 pub mod Command
+pub mod Listening
+pub mod Speaking

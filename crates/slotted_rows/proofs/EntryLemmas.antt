@@ -160,6 +160,17 @@ module _ {R : Type 0} where
   slot_left [] k j h other = h
   slot_left ((key, value) ∷ es) k j h other = grind (arith, nat_tests, slot_left es k j)
 
+  -- and its own slot is gone
+  no_slot_above : (es : List (ℕ × Option R)) (n k : ℕ) → KeysAbove n es → k ≤ n → has_slot (slots_of es) k ≡ false
+  no_slot_above [] n k above le = refl
+  no_slot_above ((key, value) ∷ es) n k above le = grind (arith, nat_tests, above.0, no_slot_above es n k above.1 le)
+
+  pub slot_gone : (rank : R → ℕ) (es : List (ℕ × Option R)) (k : ℕ) → IsKept rank es → has_slot (slots_of (remove_entry (is_at (nat_cmp k)) es)) k ≡ false
+  slot_gone rank [] k fit = refl
+  slot_gone rank ((key, value) ∷ es) k fit =
+      let behind : k ≤ key → has_slot (slots_of es) k ≡ false = λ le. no_slot_above es key k fit.1 le in
+      grind (arith, nat_tests, behind, slot_gone rank es k fit.2)
+
   -- a slot with no row has none to count
   pub none_taken : (at : Option (Option R)) → flat at ≡ None → taken at ≡ 0
   none_taken None h = refl

@@ -1,4 +1,4 @@
-ghost use Rattle.std.specs.Prelude.{◌≡◌, ℕ, true, length, option_copied, IfOk, OnOk, OnErr, IsSome, is_ok, if◌then◌else◌, None, Some};
+ghost use Rattle.std.specs.Prelude.{◌≡◌, ℕ, true, false, length, option_copied, IfOk, OnOk, OnErr, IsSome, is_ok, if◌then◌else◌, None, Some};
 ghost use Rattle.std.specs.Ordering.{nat_cmp};
 ghost use Rattle.std.specs.BTreeMap.{insert_entry, get, keys, is_at};
 ghost use Rattle.std.specs.Map.{remove_entry};
@@ -101,6 +101,7 @@ impl<R: Ranked> SlottedRows<R> {
     /// Removes the row of a rank, if there is one, and the slot with it. It takes no memory.
     pub fn remove(&mut self, rank: u128)
         ensures rows { self.new.rows ≡ without R.rank self.old.rows rank }
+        ensures gone { has_slot self.new rank ≡ false }
         ensures others { (k : ℕ) → has_slot self.old k ≡ true → (k ≡ rank → ⊥) → has_slot self.new k ≡ true }
     {
         self.count -= drop_entry(&mut self.map, rank);
@@ -108,7 +109,10 @@ impl<R: Ranked> SlottedRows<R> {
 
     /// Removes the slot of a rank, where it has no row. It takes no memory.
     pub fn release(&mut self, rank: u128)
-        ensures { self.new.rows ≡ self.old.rows }
+        ensures rows { self.new.rows ≡ self.old.rows }
+        ensures gone { row_at R.rank self.old.rows rank ≡ None → has_slot self.new rank ≡ false }
+        ensures others { (k : ℕ) → has_slot self.old k ≡ true → (k ≡ rank → ⊥) → has_slot self.new k ≡ true }
+        ensures kept { IsSome (row_at R.rank self.old.rows rank) → self.new ≡ self.old }
     {
         if self.get(rank).is_none() {
             let _none = drop_entry(&mut self.map, rank);

@@ -6,7 +6,7 @@ use Rattle.std.proofs.lemmas.Grind.{common_steps}
 use Rattle.slotted_rows.specs.Slots.{Slots, has_slot, with_row}
 use Rattle.ordered_rows.specs.Rows.{row_at, without, IsRising}
 use Rattle.slotted_rows.specs.Entries.{kept, flat, taken, slots_of, Fits}
-use Rattle.slotted_rows.proofs.EntryLemmas.{rows_rise, looked_up, kept-put, kept-place, kept-remove, fits-place, fits-put, fits-remove, slot_is, slot_new, slot_stays, slot_left, none_taken, some_slot, no_copy, without_none, count-le, count-remove, count-put}
+use Rattle.slotted_rows.proofs.EntryLemmas.{rows_rise, looked_up, kept-put, kept-place, kept-remove, fits-place, fits-put, fits-remove, slot_is, slot_new, slot_stays, slot_left, slot_gone, none_taken, some_slot, no_copy, without_none, count-le, count-remove, count-put}
 use Rattle.slotted_rows.proofs.slots.SlottedRows.remove.Goals as goal
 
 pub overflow_sub-self : goal.overflow_sub-self
@@ -22,3 +22,6 @@ returns-clause-rows g c = rw (c.drop_entry.ensures.entries, ← c.self.view_is) 
 
 pub returns-clause-others : goal.returns-clause-others
 returns-clause-others g c k has other = rw c.drop_entry.ensures.entries (slot_left c.self.inside.map.entries c.args.rank k (ap (λ t. has_slot t k) c.self.view_is ∙ has) other)
+
+pub returns-clause-gone : goal.returns-clause-gone
+returns-clause-gone g c = rw c.drop_entry.ensures.entries (slot_gone g.R.Ranked.rank c.self.inside.map.entries c.args.rank c.self.invariant.is_kept)

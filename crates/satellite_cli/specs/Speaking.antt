@@ -1,0 +1,26 @@
+-- What a connection is told.
+use Rattle.std.specs.Prelude.{◌≡◌, ℕ, List, ◌⊎◌, codes}
+use Rattle.http_edge.specs.Answers.{message, error_data, answer_text, edge_text}
+use Rattle.http_edge.specs.declared.wish.EdgeErr.TheVariants.{NoMemory}
+use Rattle.std.specs.Prelude.{Result, Ok, Err}
+use Rattle.sat_base.specs.declared.memory.NoMemory.{NoMemory as NoRoom}
+use Rattle.satellite_cli.specs.declared.speaking.Said.{Said}
+use Rattle.satellite_cli.specs.declared.speaking.Said.TheVariants as said
+
+abbrev pub words_text : List ℕ
+words_text = message 503 (error_data (codes "words"))
+
+abbrev pub term_text : List ℕ
+term_text = message 503 (error_data (codes "term"))
+
+-- a text tells what is said; where it would take memory, the answer that memory is wanting may stand in its place
+abbrev pub Tells : List ℕ → Said → List ℕ → Type 0
+Tells secret (said.Reply reply) text = (text ≡ answer_text secret reply) ⊎ (text ≡ edge_text NoMemory)
+Tells secret (said.Edge error) text = (text ≡ edge_text error) ⊎ (text ≡ edge_text NoMemory)
+Tells secret said.Words text = text ≡ words_text
+Tells secret said.Term text = text ≡ term_text
+
+-- the text that is sent for an answer that takes memory
+abbrev pub IsAnswer : Result (List ℕ) NoRoom → List ℕ → Type 0
+IsAnswer (Ok text) sent = sent ≡ text
+IsAnswer (Err none) sent = sent ≡ edge_text NoMemory
