@@ -6,8 +6,8 @@ ghost use Rattle.settlement.specs.Settle.{fresh, order_settlable, settlable, set
 
 use crate::answer::{Settlable, SettleErr, Settling};
 use crate::row::{SettledRow, place_of};
+use block_rows::BlockRows;
 use order_limits::{Keys, Order, read_order};
-use ordered_rows::Rows;
 use sat_base::{Moment, NoMemory, NodeId, Serial};
 use std::alloc::Global;
 use std::marker::Model;
@@ -18,10 +18,12 @@ const SETTLE_SECONDS: u64 = 172800;
 /// The settled orders of a store: one row for each pair of a serial and a node, in their order.
 ///
 /// Contracts see the list of the rows, the cap on their number, and `spare`, the number of rows for which
-/// there is room. A look-up costs the logarithm of the rows; adding a row moves those behind it.
+/// there is room. A look-up costs the logarithm of the rows; adding a row moves a few hundred at most, and now and
+/// then the list of their blocks.
 #[derive(Drop)]
 pub struct Settled {
-    rows: Rows<SettledRow>,
+    rows: BlockRows<SettledRow>,
+    count: u32,
     cap: u32,
 }
 
@@ -30,7 +32,7 @@ impl Model for Settled {
 
     ghost view = { λ s. record { rows = s.rows.rows; cap = s.cap; spare = s.rows.spare } };
 
-    ghost invariant = { λ s. length s.rows.rows ≤ s.cap };
+    ghost invariant = { λ s. record { count : s.count ≡ length s.rows.rows; below : s.count ≤ s.cap } };
 }
 
 impl Settled {
@@ -40,7 +42,8 @@ impl Settled {
         ensures cap { result.cap ≡ cap }
     {
         Settled {
-            rows: Rows::new(alloc),
+            rows: BlockRows::new(alloc),
+            count: 0,
             cap,
         }
     }
@@ -69,7 +72,7 @@ impl Settled {
         ensures rows { self.new.rows ≡ self.old.rows }
         ensures cap { self.new.cap ≡ self.old.cap }
     {
-        self.rows.reserve(1)
+        self.rows.reserve()
     }
 
     /// Adds a row for which there is room, below the cap, and whose serial and node have none. It takes no
@@ -83,6 +86,7 @@ impl Settled {
         ensures spare { self.new.spare + 1 ≡ self.old.spare }
     {
         self.rows.add(row);
+        self.count += 1;
     }
 
     // What an order answers whose serial and node have no row yet.
@@ -100,7 +104,7 @@ impl Settled {
         if limit.limit < amount {
             return Err(SettleErr::OverLimit { limit: limit.limit });
         }
-        if self.rows.len() == self.cap as usize {
+        if self.count == self.cap {
             return Err(SettleErr::SettledFull { cap: self.cap });
         }
         Ok(Settlable::New(SettledRow {

@@ -7,7 +7,7 @@
 mod desk;
 mod records;
 
-use anyhow::Result;
+use anyhow::{Result, bail};
 use desk::Desk;
 use records::parts_of;
 use sat_base::{MemClock, MemWords};
@@ -21,7 +21,9 @@ fn main(rt: HostRuntime) -> Result<()> {
     let parts = parts_of(alloc)?;
     let mut desk = Desk::open(alloc, parts, clock, words)?;
     let mut console = Console::new(rt.reader(), io::writer(&rt));
-    desk.serve(alloc, &mut console);
+    if !desk.serve(alloc, &mut console) {
+        bail!("the answer could not be written");
+    }
     Ok(())
 }
 
