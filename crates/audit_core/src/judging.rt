@@ -11,7 +11,7 @@ ghost use Rattle.audit_core.specs.Verdict.{IsVerdict, IsFound, IsNoneNear, silen
 use crate::plan::{AuditPlan, Heard};
 use crate::verdict::{Judged, Silent, Verdict};
 use bw_decode::{Nearness, Scratch, stripe};
-use rs_stripe::encode_share;
+use rs_stripe::Encoder;
 use sat_base::{Fetched, Indexes, Items, NoMemory, Scheme, Share};
 use sha2::{Digest, Sha256};
 use std::alloc::Global;
@@ -153,14 +153,19 @@ fn owing_shares(
     ensures expects { IfOk result (All (λ one. one.expect
         ≡ sha256 (share_of scheme.now.k scheme.now.share stripe.now one.index))) }
 {
+    let mut owing = Vec::new(alloc);
+    if silent.is_empty() {
+        return Ok(Items::of(owing));
+    }
+    let mut encoder = Encoder::new(alloc, scheme, silent)?;
+    encoder.hold(stripe);
     let mut room = [0; LONGEST_SHARE];
     let share = &mut room[..usize::from(scheme.share)];
-    let mut owing = Vec::new(alloc);
-    for index in silent {
-        encode_share(scheme, stripe, *index, share);
+    for place in 0..silent.len() {
+        encoder.write_share(place, share);
         let expect = Sha256::digest(&*share);
         owing.push(Silent {
-            index: *index,
+            index: silent[place],
             expect,
         })?;
     }

@@ -1,5 +1,8 @@
 // What an audit asks, and what it hears.
-use sat_base::{At, Fetched, Items, Moment, SegId, Serial};
+ghost use Rattle.std.specs.Prelude.{◌≡◌, IfOk};
+
+use sat_base::{At, Fetched, Items, Moment, NoMemory, SegId, Serial};
+use std::alloc::Global;
 
 /// An audit of one stripe of a segment: which pieces are asked for their share of it.
 #[derive(Debug, PartialEq, Eq, Drop)]
@@ -16,6 +19,23 @@ pub struct AuditPlan {
     pub issued: Moment,
     /// The pieces that are asked, by rising index.
     pub asked: Items<At>,
+}
+
+impl AuditPlan {
+    /// The same plan again.
+    pub fn copy(&self, alloc: Global) -> Result<AuditPlan, NoMemory>
+        ensures { IfOk result (λ plan. plan ≡ self.now) }
+    {
+        Ok(AuditPlan {
+            plan: self.plan,
+            segment: self.segment,
+            version: self.version,
+            stripe: self.stripe,
+            serial: self.serial,
+            issued: self.issued,
+            asked: self.asked.copy(alloc)?,
+        })
+    }
 }
 
 /// What was heard of the piece of one index.

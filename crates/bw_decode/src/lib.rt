@@ -46,9 +46,11 @@
 //!    least is: had all the others the codeword's values, then those that predicted would have
 //!    predicted it, and none had differed. Then 1 again.
 //!
-//! So at most e + 1 systems are solved. [`Scratch`] counts them.
+//! So the count of solved systems, which [`Scratch`] keeps, rises by at most e + 1, and not at all below
+//! k answers. That nothing is solved beside the count is not a clause.
 //!
-//! Only [`Scratch::new`] takes memory.
+//! Only [`Scratch::new`] takes memory. Not promised: what was the stripe where more than e answers are
+//! altered. Then another may be near, or none.
 #![tactic(auto)]
 
 mod answers;

@@ -2,24 +2,25 @@
 ghost use Rattle.std.specs.Prelude.{◌≡◌, ℕ, ◌+◌, ◌*◌, ◌/◌, ◌%◌, ◌<◌, ◌≤◌, ◌↔◌, length, slice_index, IsTrue};
 ghost use Rattle.gf256.specs.Field.{◌⊕◌, ◌⊗◌};
 ghost use Rattle.gf256.specs.Lanes.{HasLanes, AreMultiples, AddsMultiple, AgreeWithin};
+ghost use Rattle.gf256.specs.Halves.{AreSmall, joined};
 
 use crate::field::{add, mul};
 use crate::tables::{high_products, low_products};
 use std::simd::prelude::*;
 
 // How many bytes one vector holds.
-const LANES: usize = 32;
+pub(crate) const LANES: usize = 32;
 
 // The same of the widest vector.
 const WIDE_LANES: usize = 64;
 
 // How many bytes one step of a long sum takes.
-const BLOCK: usize = 4 * LANES;
+pub(crate) const BLOCK: usize = 4 * LANES;
 
 // The products of one factor with the two halves of a byte. Each table stands twice in its vector,
 // since a look-up reads each 16 lanes apart.
 #[derive(Clone, Copy)]
-struct Multiples {
+pub(crate) struct Multiples {
     low: u8x32,
     high: u8x32,
 }
@@ -55,7 +56,7 @@ fn by_high_half(table: u8x32, v: u8x32) -> u8x32
 
 impl Multiples {
     #[inline(always)]
-    fn of(factor: u8) -> Multiples
+    pub(crate) fn of(factor: u8) -> Multiples
         ensures { AreMultiples factor result }
     {
         Multiples {
@@ -70,6 +71,17 @@ impl Multiples {
         ensures { (c : ℕ) → AreMultiples c self → HasLanes result (λ k. c ⊗ slice_index v k) }
     {
         by_low_half(self.low, v) ^ by_high_half(self.high, v)
+    }
+
+    // The products of the factor with bytes that are given by their halves.
+    #[inline(always)]
+    pub(crate) fn times_halves(self, low: u8x32, high: u8x32) -> u8x32
+        requires small { AreSmall low }
+        requires small_high { AreSmall high }
+        ensures { (c : ℕ) → AreMultiples c self
+            → HasLanes result (λ k. c ⊗ joined low high k) }
+    {
+        self.low.swizzle_dyn_within::<16>(low) ^ self.high.swizzle_dyn_within::<16>(high)
     }
 
     #[inline(always)]

@@ -67,6 +67,22 @@ reply_no_float secret replies.Stopping = refl
 reply_no_float secret (replies.Refused refusal) = refusal_no_float refusal
 reply_no_float secret (replies.StoreFault before after) = refl
 reply_no_float secret replies.NoMemory = refl
+reply_no_float secret (replies.Statement s) = refl
+reply_no_float secret (replies.AuditPlanned p q) = refl
+reply_no_float secret (replies.AuditEnded a b c d e) = refl
+reply_no_float secret (replies.RecheckPlanned p q) = refl
+reply_no_float secret (replies.RecheckEnded a b) = refl
+reply_no_float secret replies.Gone = refl
+reply_no_float secret (replies.RepairPlanned p q r) = refl
+reply_no_float secret (replies.RepairEnded v) = refl
+reply_no_float secret replies.Unrepaired = refl
+reply_no_float secret (replies.Superseded a b) = refl
+reply_no_float secret (replies.Tallied a b) = refl
+reply_no_float secret (replies.Closed a b) = refl
+reply_no_float secret (replies.Exiting n) = refl
+reply_no_float secret (replies.Exited n) = refl
+reply_no_float secret (replies.ExitPlanned p q r) = refl
+reply_no_float secret (replies.RatesSet m) = refl
 
 pub edge_no_float : (e : EdgeErr) → has_float (edge_data e) ≡ false
 edge_no_float edges.Head = refl

@@ -1,13 +1,16 @@
 -- Heads that are missing, and bytes that come read by read.
-use Rattle.std.proofs.Common.{◌≡◌, ℕ, ◌+◌, ◌<◌, ◌≤◌, List, [], ◌++◌, length, take, sym, ◌∙◌, ap, arith, Option, append-nil}
-use Rattle.std.proofs.Math.Seq.{take-append-add}
-use Rattle.std.proofs.lemmas.List.{take-append-le, length-take-le}
-use borrow.Rule.Slice.PartMut.{put_mid, post_of}
-use Rattle.sat_base.specs.Outside.{with_front}
-use Rattle.sat_base.proofs.Told.{with_front-front}
+use Rattle.std.proofs.Common.{◌≡◌, ℕ, ◌+◌, ◌-◌, ◌<◌, ◌≤◌, List, [], ◌++◌, length, take, false, sym, ◌∙◌, ap, arith, append-nil, inl, inr}
+use Rattle.std.proofs.lemmas.List.{length-take-le}
+use Rattle.std.proofs.lemmas.Slice.{take-put_mid_below}
+use borrow.Rule.Slice.PartMut.{put_mid}
+use Rattle.sat_base.specs.declared.outside.Taken.{Taken}
+use Rattle.sat_base.specs.declared.outside.Taken.TheVariants as takes
+use Rattle.sat_base.specs.Outside.{About, failed_read, taken}
+use Rattle.sat_base.specs.Streams.{Took}
+use Rattle.sat_base.proofs.Transfers.{Reads, idle_read, take_read, took_more}
 use Rattle.httparse.specs.Grammar.{HasNoRequest}
 use Rattle.httparse.specs.Spans.{RequestOverflows}
-use Rattle.http_edge.specs.Heads.{LacksHead, max_lines}
+use Rattle.http_edge.specs.Heads.{IsUndecided, LacksHead, MayReadHead, max_head, max_lines}
 
 pub lacks_of_none : (bytes : List ℕ) → HasNoRequest bytes → LacksHead bytes
 lacks_of_none bytes none = record { none = λ h rest x. none h rest x.reads }
@@ -19,18 +22,24 @@ lacks_of_many bytes many = record {
       absurd (omega (arith, x.lines, over));
 }
 
--- two reads, one after the other
-pub took_more : (before middle after : Option (List ℕ)) (bytes more : List ℕ) → before ≡ with_front bytes middle → middle ≡ with_front more after → before ≡ with_front (bytes ++ more) after
-took_more before middle after bytes more p q = p ∙ ap (with_front bytes) q ∙ with_front-front bytes more after
+-- what doesn't decide has no head at its front
+pub lacks_undecided : (bytes : List ℕ) → IsUndecided max_lines bytes → LacksHead bytes
+lacks_undecided bytes (inl missing) = lacks_of_none bytes missing.0
+lacks_undecided bytes (inr many) = lacks_of_many bytes many.1
 
--- the bytes that have come, after a read into the part behind them
-pub take_read : (xs ys : List ℕ) (got k count : ℕ) → got ≤ length xs → count ≤ length ys → take (got + count) (put_mid got k xs ys) ≡ take got xs ++ take count ys
-take_read xs ys got k count p q =
-    ap (λ n. take (n + count) (put_mid got k xs ys)) (sym (length-take-le got xs p))
-    ∙ take-append-add (take got xs) (ys ++ post_of got k xs) count
-    ∙ ap (λ l. take got xs ++ l) (take-append-le count ys (post_of got k xs) q)
+-- a read more for a head, which took bytes
+pub head_more : (xs ys : List ℕ) (got k asked count : ℕ) (old mid new : About) → got < length xs → length xs ≡ max_head → length ys ≡ asked → asked ≡ length xs - got → IsUndecided max_lines (take got xs)
+    → Took MayReadHead (take got xs) 0 false old mid → Reads asked ys (takes.Count count) mid new → Took MayReadHead (take (got + count) (put_mid got k xs ys)) 0 false old new
+head_more xs ys got k asked count old mid new p size len is undecided before r =
+    let long : length (take got xs) ≡ got = length-take-le got xs (omega arith) in
+    rw (take_read xs ys got k count (omega arith) (omega (arith, r.within, len)))
+    (took_more MayReadHead (take got xs) asked ys (takes.Count count) old mid new before (undecided, omega (arith, long, is, size)) (omega arith) len r)
 
-pub read_more : (before middle after : Option (List ℕ)) (xs ys : List ℕ) (got k count : ℕ) → got ≤ length xs → count ≤ length ys → before ≡ with_front (take got xs) middle → middle ≡ with_front (take count ys) after
-    → before ≡ with_front (take (got + count) (put_mid got k xs ys)) after
-read_more before middle after xs ys got k count p q e f =
-    took_more before middle after (take got xs) (take count ys) e f ∙ ap (λ l. with_front l after) (sym (take_read xs ys got k count p q))
+-- a read more for a head, which took nothing
+pub head_idle : (xs ys : List ℕ) (got k asked : ℕ) (t : Taken) (old mid new : About) → got < length xs → length xs ≡ max_head → length ys ≡ asked → asked ≡ length xs - got → taken t ys ≡ [] → IsUndecided max_lines (take got xs)
+    → Took MayReadHead (take got xs) 0 false old mid → Reads asked ys t mid new → Took MayReadHead (take got (put_mid got k xs ys)) (idle_read t) (failed_read t) old new
+head_idle xs ys got k asked t old mid new p size len is empty undecided before r =
+    let long : length (take got xs) ≡ got = length-take-le got xs (omega arith) in
+    let nothing : take got (put_mid got k xs ys) ≡ take got xs ++ taken t ys =
+    take-put_mid_below got k xs ys got (omega arith) (omega arith) ∙ sym (append-nil (take got xs)) ∙ ap (λ l. take got xs ++ l) (sym empty) in
+    rw nothing (took_more MayReadHead (take got xs) asked ys t old mid new before (undecided, omega (arith, long, is, size)) (omega arith) len r)

@@ -1,5 +1,4 @@
 mod AddressLemmas
-mod BodyLemmas
 mod FetchLemmas
 mod FieldLemmas
 mod FloatLemmas
@@ -11,4 +10,3 @@ mod NumberLemmas
 mod PathLemmas
 mod ReadingLemmas
 mod RequestLemmas
-mod SendLemmas

@@ -1,16 +1,18 @@
 -- What all bytes of a connection say, from what was read of them.
-use Rattle.std.proofs.Common.{◌≡◌, ℕ, ◌+◌, ◌-◌, ◌≤◌, List, [], ◌++◌, length, take, drop, map, refl, sym, ◌∙◌, ap, arith, append_assoc, Option, Some, None, Result, Ok, Err, append-nil, subst}
+use Rattle.std.proofs.Common.{◌≡◌, ℕ, ◌+◌, ◌-◌, ◌≤◌, List, [], ◌++◌, length, take, drop, map, refl, sym, ◌∙◌, ap, arith, append_assoc, Bool, Option, Some, None, Result, Ok, Err, append-nil, subst}
 use Rattle.std.proofs.lemmas.List.{take-append-le, take-append-drop, take_at, length-map, length-take-le}
 use Rattle.std.proofs.Math.Seq.{take-append-add}
 use Rattle.httparse.specs.Grammar.{RequestHead, print_request, NeverHasRequest}
 use Rattle.httparse.specs.declared.spans.HeaderSpan.{HeaderSpan}
 use Rattle.httparse.specs.declared.spans.RequestSpans.{RequestSpans}
 use Rattle.httparse.specs.Spans.{IsRequestAt, IsRequestWithin, header_bytes, name_and_value}
-use Rattle.http_edge.specs.Heads.{HasHead, LacksHead, max_head, max_lines}
+use Rattle.http_edge.specs.Heads.{HasHead, LacksHead, MayReadHead, max_head, max_lines}
 use Rattle.http_edge.specs.Fields.{body_of}
-use Rattle.http_edge.specs.Requests.{unread_as, short_body, failed_request, bodied, Outcome, BehindHead, IsBodyOutcome, SaysBody, whole, Says, headed, SaysBehind, AnswersOf}
+use Rattle.http_edge.specs.Requests.{MayRead, a_head, unread_as, short_body, failed_request, bodied, Outcome, BehindHead, IsBodyOutcome, SaysBody, whole, Says, headed, SaysBehind, AnswersOf}
 use Rattle.http_edge.specs.declared.routes.Route.{Route}
-use Rattle.sat_base.specs.Outside.{with_front}
+use Rattle.sat_base.specs.Outside.{About, with_front}
+use Rattle.sat_base.specs.Streams.{Took}
+use Rattle.sat_base.proofs.Transfers.{took_as, took_within}
 use Rattle.http_edge.specs.Fetches.{IsBody, failed_fetch}
 use Rattle.http_edge.specs.declared.fetch.BodyErr.{BodyErr}
 use Rattle.http_edge.specs.declared.fetch.BodyErr.TheVariants as fetches
@@ -55,7 +57,7 @@ bodied_as keys h rest r n d = answers_weaker (SaysBody r n rest) (SaysBehind key
 pub headed_as : (keys : List ℕ) (all : List ℕ) (h : RequestHead) (rest : List ℕ) → HasHead all h rest → (a : Result Wish ReadErr) → BehindHead keys h rest a → Outcome keys all a
 headed_as keys all h rest hd = answers_weaker (SaysBehind keys h rest) (Says keys all) (λ s b. headed h rest s hd b)
 
-some_is : (a b : List ℕ) → Some a ≡ Some b → a ≡ b
+pub some_is : (a b : List ℕ) → Some a ≡ Some b → a ≡ b
 some_is a b e = cc
 
 -- what was told as left is what was read and what is left now
@@ -90,3 +92,8 @@ pub unread_fails : (e : BodyErr) → failed_request (Err (unread_as e)) ≡ fail
 unread_fails fetches.Short = refl
 unread_fails fetches.Fault = refl
 unread_fails fetches.NoMemory = refl
+
+-- what was read for a head, as a part of a request
+pub head_took : (secret bytes : List ℕ) (idle : ℕ) (failed : Bool) (old new : About) → idle ≤ 1 → Took MayReadHead bytes idle failed old new → Took (MayRead secret) bytes 1 failed old new
+head_took secret bytes idle failed old new le t =
+    took_within (MayRead secret) bytes idle 1 failed old new le (took_as (MayRead secret) MayReadHead bytes idle failed old new t (λ before asked may some. a_head may))

@@ -1,5 +1,5 @@
 -- The bytes of answers: a status line, three headers, and a body in JSON.
-use Rattle.std.specs.Prelude.{ℕ, ◌+◌, ◌/◌, ◌%◌, List, [], ◌∷◌, ◌++◌, map, codes, decimal, length, unwrap_or, ◌==◌, if◌then◌else◌}
+use Rattle.std.specs.Prelude.{ℕ, Bool, ◌+◌, ◌/◌, ◌%◌, List, [], ◌∷◌, ◌++◌, map, codes, decimal, length, unwrap_or, ◌==◌, if◌then◌else◌}
 use Rattle.hex.specs.Hex.{encode_lower}
 use Rattle.http.specs.StatusCode.{reason_phrase}
 use Rattle.order_limits.specs.Keys.{node_key, customer_key, serial_key}
@@ -12,10 +12,10 @@ use Rattle.sat_base.specs.declared.requests.Done.{Done}
 use Rattle.sat_base.specs.declared.requests.Done.TheVariants as dones
 use Rattle.sat_base.specs.declared.requests.Offer.{Offer}
 use Rattle.sat_base.specs.declared.requests.Place.{Place}
-use Rattle.serde_json.specs.Data.{Data, string, array, object, member, no_members}
+use Rattle.serde_json.specs.Data.{Data, boolean, string, array, object, member, no_members}
 use Rattle.serde_json.specs.View.{items_of}
 use Rattle.serde_json.specs.Written.{compact_text}
-use Rattle.http_edge.specs.Refusals.{whole, refusal_data, refusal_status}
+use Rattle.http_edge.specs.Refusals.{whole, month_text, refusal_data, refusal_status}
 use Rattle.http_edge.specs.declared.wish.EdgeErr.{EdgeErr}
 use Rattle.http_edge.specs.declared.wish.EdgeErr.TheVariants as edges
 
@@ -45,6 +45,12 @@ result_data how = object (member (codes "result") (string how) no_members)
 
 abbrev pub amount_data : ℕ → List ℕ → Data
 amount_data amount how = object (member (codes "amount") (whole amount) (member (codes "result") (string how) no_members))
+
+abbrev pub closed_data : Bool → List ℕ → Data
+closed_data fresh month = object (member (codes "fresh") (boolean fresh) (member (codes "month") (string month) no_members))
+
+abbrev pub rates_data : List ℕ → Data
+rates_data month = object (member (codes "month") (string month) (member (codes "result") (string (codes "rates-set")) no_members))
 
 abbrev pub segment_data : ℕ → List ℕ → Data
 segment_data segment state = object (member (codes "segment") (whole segment) (member (codes "state") (string state) no_members))
@@ -99,25 +105,29 @@ done_data secret (dones.Offer offer) = offer_data secret offer
 done_data secret (dones.Committed segment) = segment_data segment.0 (codes "live")
 done_data secret (dones.Deleted segment) = segment_data segment.0 (codes "deleted")
 
+-- no caller is told the other replies
+abbrev pub no_answer : Data
+no_answer = object no_members
+
 abbrev pub reply_data : List ℕ → Reply → Data
 reply_data secret (replies.Done done) = done_data secret done
 reply_data secret (replies.Settled amount) = amount_data amount (codes "settled")
 reply_data secret (replies.Again amount) = amount_data amount (codes "again")
 reply_data secret replies.FreeSet = result_data (codes "set")
+reply_data secret (replies.Closed month fresh) = closed_data fresh (month_text month.0)
 reply_data secret replies.Stopping = result_data (codes "stopping")
+reply_data secret (replies.Exiting node) = result_data (codes "exiting")
+reply_data secret (replies.RatesSet month) = rates_data (month_text month.0)
 reply_data secret (replies.Refused refusal) = refusal_data refusal
 reply_data secret (replies.StoreFault before after) = error_data (codes "store")
 reply_data secret replies.NoMemory = error_data (codes "memory")
+reply_data secret _ = no_answer
 
 abbrev pub reply_status : Reply → ℕ
-reply_status (replies.Done done) = 200
-reply_status (replies.Settled amount) = 200
-reply_status (replies.Again amount) = 200
-reply_status replies.FreeSet = 200
-reply_status replies.Stopping = 200
 reply_status (replies.Refused refusal) = refusal_status refusal
 reply_status (replies.StoreFault before after) = 503
 reply_status replies.NoMemory = 507
+reply_status _ = 200
 
 -- the bytes of a reply's answer
 abbrev pub answer_text : List ℕ → Reply → List ℕ

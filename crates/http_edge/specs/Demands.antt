@@ -30,10 +30,14 @@ abbrev pub is_key_of : List ℕ → Option (List ℕ) → Bool
 is_key_of key None = false
 is_key_of key (Some text) = is_key key text
 
+-- the most bytes of a body
+abbrev pub max_body : ℕ
+max_body = 65536
+
 -- what the values of Content-Length say
 abbrev pub of_lengths : Route → List (List ℕ) → Demand
 of_lengths r [] = Refused NoLength
-of_lengths r (v ∷ []) = cond (numeral v) (cond (nat_le (digits_value 10 v) 65536) (Body r (digits_value 10 v)) (Refused BodySize)) (Refused BadLength)
+of_lengths r (v ∷ []) = cond (numeral v) (cond (nat_le (digits_value 10 v) max_body) (Body r (digits_value 10 v)) (Refused BodySize)) (Refused BadLength)
 of_lengths r (v ∷ w ∷ vs) = Refused BadLength
 
 -- what the headers say
@@ -52,4 +56,4 @@ pub data Demands (secret : List ℕ) (h : RequestHead) : Demand → Type 0 where
 -- the body is small enough
 abbrev pub IsSmall : Demand → Type 0
 IsSmall (Refused e) = Unit {0}
-IsSmall (Body r n) = n ≤ 65536
+IsSmall (Body r n) = n ≤ max_body

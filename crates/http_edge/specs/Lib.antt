@@ -1,6 +1,5 @@
 pub mod Address
 pub mod Answers
-pub mod Bodies
 pub mod Demands
 pub mod Fetches
 pub mod Fields

@@ -1,9 +1,9 @@
 -- What the bytes of a connection ask: a wish, or an error.
-use Rattle.std.specs.Prelude.{◌≢◌, ℕ, ◌<◌, ◌≤◌, List, length, take, Result, Ok, Err, Bool, true, false}
+use Rattle.std.specs.Prelude.{◌≢◌, ℕ, ◌+◌, ◌<◌, ◌≤◌, List, length, take, Result, Ok, Err, Bool, true, false}
 use Rattle.httparse.specs.Grammar.{RequestHead, NeverHasRequest}
 use Rattle.http_edge.specs.Demands.{Demands}
 use Rattle.http_edge.specs.Fields.{body_of}
-use Rattle.http_edge.specs.Heads.{max_head, HasHead, LacksHead}
+use Rattle.http_edge.specs.Heads.{max_head, HasHead, LacksHead, MayReadHead}
 use Rattle.http_edge.specs.declared.demand.Demand.TheVariants.{Refused, Body}
 use Rattle.http_edge.specs.declared.fetch.BodyErr.{BodyErr}
 use Rattle.http_edge.specs.declared.fetch.BodyErr.TheVariants as fetches
@@ -24,6 +24,13 @@ pub data SaysBehind (secret : List ℕ) (h : RequestHead) (rest : List ℕ) : Re
   refused : (e : EdgeErr) → Demands secret h (Refused e) → SaysBehind secret h rest (Err e)
   bodied : (r : Route) (n : ℕ) (said : Result Wish EdgeErr) → Demands secret h (Body r n) → SaysBody r n rest said → SaysBehind secret h rest said
 
+-- a head asks for a body, of which that many bytes are missing behind it
+pub record MayReadBehind (secret : List ℕ) (h : RequestHead) (rest : List ℕ) (asked : ℕ) : Type 0 where
+  pub route : Route
+  pub size : ℕ
+  pub demands : Demands secret h (Body route size)
+  pub missing : length rest + asked ≤ size
+
 -- what the bytes of a connection say, where its end comes behind them: in the row of no_head the number of
 -- header lines isn't bounded
 pub data Says (secret bytes : List ℕ) : Result Wish EdgeErr → Type 0 where
@@ -38,6 +45,12 @@ AnswersOf said (Ok w) = said (Ok w)
 AnswersOf said (Err Fault) = Unit {0}
 AnswersOf said (Err (Edge e)) = e ≢ NoMemory → said (Err e)
 
+-- where a connection may be read on for behind the bytes so far, and how many bytes at most: they don't decide
+-- and the head is within its bound, or a head asks for a body of which that many bytes are missing
+pub data MayRead (secret bytes : List ℕ) (asked : ℕ) : Type 0 where
+  a_head : MayReadHead bytes asked → MayRead secret bytes asked
+  a_body : (h : RequestHead) (rest : List ℕ) → HasHead bytes h rest → MayReadBehind secret h rest asked → MayRead secret bytes asked
+
 abbrev pub Outcome : List ℕ → List ℕ → Result Wish ReadErr → Type 0
 Outcome secret bytes = AnswersOf (Says secret bytes)
 
@@ -51,6 +64,10 @@ abbrev pub failed_request : Result Wish ReadErr → Bool
 failed_request (Ok w) = false
 failed_request (Err (Edge e)) = false
 failed_request (Err Fault) = true
+
+-- the most bytes of a request
+abbrev pub max_request : ℕ
+max_request = 73728
 
 -- the error where there is no body
 abbrev pub unread_as : BodyErr → ReadErr

@@ -3,6 +3,6 @@ use Rattle.std.specs.Prelude.{Bool, true, false}
 use Rattle.http_edge.specs.declared.sending.Sent.{Sent}
 use Rattle.http_edge.specs.declared.sending.Sent.TheVariants.{All, Fault}
 
-abbrev pub failed_send : Sent → Bool
-failed_send All = false
-failed_send Fault = true
+abbrev pub all_sent : Sent → Bool
+all_sent All = true
+all_sent Fault = false

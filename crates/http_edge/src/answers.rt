@@ -1,5 +1,6 @@
 // The bytes of answers.
-ghost use Rattle.std.specs.Prelude.{◌≡◌, IfOk};
+ghost use Rattle.std.specs.Prelude.{◌≡◌, true, IfOk};
+ghost use Rattle.machine_calls.specs.Replies.{is_sayable};
 ghost use Rattle.serde_json.specs.View.{view};
 ghost use Rattle.http_edge.specs.Answers.{answer_text, reply_status, edge_text, edge_status, edge_data, field_name, field_data};
 ghost use Rattle.http_edge.specs.Refusals.{refusal_status};
@@ -14,8 +15,9 @@ use sat_base::{Bytes, NoMemory};
 use serde_json::{Value, json};
 use std::alloc::{AllocError, Global};
 
-/// The bytes of the answer to a reply (RFC 9112, RFC 8259).
+/// The bytes of the answer to a reply (RFC 9112, RFC 8259), which is one that callers are told.
 pub fn answer(alloc: Global, keys: &Keys, reply: &Reply) -> Result<Bytes, NoMemory>
+    requires { is_sayable reply.now ≡ true }
     ensures { IfOk result (λ bytes. bytes ≡ answer_text keys.now reply.now) }
 {
     let value = reply_value(alloc, keys, reply)?;
@@ -44,11 +46,7 @@ fn status_of(reply: &Reply) -> StatusCode
         Reply::Refused(refusal) => status_of_refusal(refusal),
         Reply::StoreFault { .. } => StatusCode::SERVICE_UNAVAILABLE,
         Reply::NoMemory => StatusCode::INSUFFICIENT_STORAGE,
-        Reply::Done(_)
-        | Reply::Settled { .. }
-        | Reply::Again { .. }
-        | Reply::FreeSet
-        | Reply::Stopping => StatusCode::OK,
+        _ => StatusCode::OK,
     }
 }
 

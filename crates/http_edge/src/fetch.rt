@@ -1,11 +1,9 @@
 // A whole body.
 ghost use Rattle.std.specs.Prelude.{◌≡◌, ◌+◌, ◌≤◌, ℕ, List, ◌++◌, length, max, Some};
-ghost use Rattle.sat_base.specs.Outside.{with_front, Counts};
-ghost use Rattle.http_edge.specs.Bodies.{failed_body};
-ghost use Rattle.http_edge.specs.Fetches.{IsBody, IsFilled, failed_fetch};
+ghost use Rattle.sat_base.specs.Streams.{Took, failed_filling, idle_reads};
+ghost use Rattle.http_edge.specs.Fetches.{IsBody, IsFilled, MayReadBody, failed_fetch};
 
-use crate::body::{BodyEnd, read_body};
-use sat_base::Source;
+use sat_base::{Filling, Source, fill};
 use std::alloc::Global;
 
 /// Why there is no body.
@@ -17,22 +15,15 @@ pub(crate) enum BodyErr {
 }
 
 // Fills the body: with bytes that were read with the head, and then with those that are left.
-fn fill_body<S: Source>(source: &mut S, read: &[u8], body: &mut [u8]) -> BodyEnd
+fn fill_body<S: Source>(source: &mut S, read: &[u8], body: &mut [u8]) -> Filling
     ensures length { length body.new ≡ length body.old }
-    ensures body { (left : List ℕ) → S.left source.old ≡ Some left → IsFilled body.new (read.now ++ left) result }
-    ensures took { (more : List ℕ) × (S.left source.old ≡ with_front more (S.left source.new))
-        × (length read.now + length more ≤ max (length read.now) (length body.old)) }
-    ensures faults { Counts (failed_body result) (S.read_faults source.old) (S.read_faults source.new) }
-    ensures written { S.written source.new ≡ S.written source.old }
-    ensures write_faults { S.write_faults source.new ≡ S.write_faults source.old }
+    ensures body { (left : List ℕ) → (S.about source.old).left ≡ Some left → IsFilled body.new (read.now ++ left) result }
+    ensures took { (more : List ℕ) × Took (MayReadBody (length body.old) read.now) more (idle_reads result) (failed_filling result)
+        (S.about source.old) (S.about source.new) × (length read.now + length more ≤ max (length read.now) (length body.old)) }
 {
     let have = body.len().min(read.len());
     body[..have].copy_from_slice(&read[..have]);
-    match read_body(source, body, have).end {
-        BodyEnd::Whole => BodyEnd::Whole,
-        BodyEnd::Ended => BodyEnd::Ended,
-        BodyEnd::Fault => BodyEnd::Fault,
-    }
+    fill(source, body, have).end
 }
 
 /// The body: bytes that were read with the head, and then those that are still left. Never a byte more is
@@ -43,19 +34,16 @@ pub(crate) fn fetch_body<S: Source>(
     read: &[u8],
     size: usize,
 ) -> Result<Vec<u8>, BodyErr>
-    ensures body { (left : List ℕ) → S.left source.old ≡ Some left → IsBody size (read.now ++ left) result }
-    ensures took { (more : List ℕ) × (S.left source.old ≡ with_front more (S.left source.new))
-        × (length read.now + length more ≤ max (length read.now) size) }
-    ensures faults { Counts (failed_fetch result) (S.read_faults source.old) (S.read_faults source.new) }
-    ensures written { S.written source.new ≡ S.written source.old }
-    ensures write_faults { S.write_faults source.new ≡ S.write_faults source.old }
+    ensures body { (left : List ℕ) → (S.about source.old).left ≡ Some left → IsBody size (read.now ++ left) result }
+    ensures took { (more : List ℕ) × Took (MayReadBody size read.now) more 1 (failed_fetch result)
+        (S.about source.old) (S.about source.new) × (length read.now + length more ≤ max (length read.now) size) }
 {
     let Ok(mut body) = vec![in alloc; 0u8; size] else {
         return Err(BodyErr::NoMemory);
     };
     match fill_body(source, read, &mut body) {
-        BodyEnd::Whole => Ok(body),
-        BodyEnd::Ended => Err(BodyErr::Short),
-        BodyEnd::Fault => Err(BodyErr::Fault),
+        Filling::Full => Ok(body),
+        Filling::Ended => Err(BodyErr::Short),
+        Filling::Failed => Err(BodyErr::Fault),
     }
 }

@@ -1,7 +1,7 @@
 // Reads until a head is whole.
 ghost use Rattle.std.specs.Prelude.{◌≡◌, ◌≤◌, length, take};
-ghost use Rattle.sat_base.specs.Outside.{with_front, Counts};
-ghost use Rattle.http_edge.specs.Heads.{max_head, max_lines, IsHeadEnd, failed_head};
+ghost use Rattle.sat_base.specs.Streams.{Took};
+ghost use Rattle.http_edge.specs.Heads.{max_head, max_lines, IsHeadEnd, IsLook, MayReadHead, failed_head, idle_head};
 
 use httparse::spans::{HeaderSpan, RequestSpans, parse_request};
 use httparse::{Error, Status};
@@ -30,6 +30,30 @@ pub(crate) struct HeadRead {
     pub end: HeadEnd,
 }
 
+// What a look at the bytes of a head says.
+#[derive(Clone, Copy, Debug)]
+enum Look {
+    // A head stands at the front.
+    Whole(RequestSpans),
+    // No bytes that can follow make a head.
+    Never,
+    // They don't decide.
+    Open,
+}
+
+// Looks for a head at the front.
+fn look_for_head(bytes: &[u8], headers: &mut [HeaderSpan]) -> Look
+    ensures room { length headers.new ≡ length headers.old }
+    ensures says { IsLook (length headers.old) bytes.now headers.new result }
+{
+    match parse_request(bytes, headers) {
+        Ok(Status::Complete(spans)) => Look::Whole(spans),
+        Ok(Status::Partial) => Look::Open,
+        Err(Error::TooManyHeaders) => Look::Open,
+        Err(_) => Look::Never,
+    }
+}
+
 /// Reads into the buffer until a head is whole. Where it has more header lines than there is room for, a
 /// longer prefix may still show that the bytes are no head, so the reading goes on.
 pub(crate) fn read_head<S: Source>(
@@ -42,24 +66,22 @@ pub(crate) fn read_head<S: Source>(
     ensures within { result.got ≤ max_head }
     ensures length { length buf.new ≡ max_head }
     ensures room { length headers.new ≡ max_lines }
-    ensures took { S.left source.old ≡ with_front (take result.got buf.new) (S.left source.new) }
-    ensures end { IsHeadEnd (take result.got buf.new) headers.new (S.left source.new) result.end }
-    ensures faults { Counts (failed_head result.end) (S.read_faults source.old) (S.read_faults source.new) }
-    ensures written { S.written source.new ≡ S.written source.old }
-    ensures write_faults { S.write_faults source.new ≡ S.write_faults source.old }
+    ensures end { IsHeadEnd (take result.got buf.new) headers.new (S.about source.new).left result.end }
+    ensures took { Took MayReadHead (take result.got buf.new) (idle_head result.end) (failed_head result.end)
+        (S.about source.old) (S.about source.new) }
 {
     let mut got = 0;
     loop {
-        match parse_request(&buf[..got], headers) {
-            Ok(Status::Complete(spans)) => return HeadRead {
+        match look_for_head(&buf[..got], headers) {
+            Look::Whole(spans) => return HeadRead {
                 got,
                 end: HeadEnd::Whole(spans),
             },
-            Ok(Status::Partial) | Err(Error::TooManyHeaders) => {}
-            Err(_) => return HeadRead {
+            Look::Never => return HeadRead {
                 got,
                 end: HeadEnd::Never,
             },
+            Look::Open => {}
         }
         if got == buf.len() {
             return HeadRead {

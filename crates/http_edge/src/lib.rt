@@ -1,12 +1,24 @@
 //! The wire: the bytes of a connection to one wish or one named error, and replies to the bytes of answers.
 //!
-//! Heads are read by `httparse`'s grammar (RFC 9112), bodies by `serde_json`'s (RFC 8259). What a request
-//! is, is a relation between all bytes of a connection and a wish or an error, in `specs/Requests.antt`.
+//! Heads are read by `httparse`'s grammar (RFC 9112), bodies by `serde_json`'s (RFC 8259). What a request is, is a
+//! relation between all bytes of a connection and a wish or an error, in `specs/Requests.antt`.
+//!
+//! - [`read_request`] gives what all bytes say (`outcome`): the first error in its order, but that of the three
+//!   errors of a head any whose cause holds may come. It takes a front of them, at most 73728 bytes. It makes no read
+//!   once what was taken decides, and asks for no more than the missing bytes of a body. A failed read is counted,
+//!   and nothing else (`took`).
+//! - [`heads_decide`]: where a head stands the bytes say one thing. [`addresses_are_dotted`]: an address is four
+//!   plain numbers joined by dots.
+//! - [`answer`], [`edge_answer`] and [`memory_answer`] are exactly the status line, the headers and the JSON text,
+//!   with the right keys and limits in them.
+//!
+//! `docs/FORMATS.md` has each route, field, answer and refusal, so that a client can be written from it.
+//!
+//! Not promised: that a read returns, or anything of a second request on a connection.
 #![tactic(auto)]
 
 mod address;
 mod answers;
-mod body;
 mod demand;
 mod fetch;
 mod fields;
@@ -22,8 +34,6 @@ mod replies;
 mod request;
 mod routes;
 mod sending;
-#[cfg(test)]
-mod tests;
 mod texts;
 mod wish;
 

@@ -149,7 +149,7 @@ fn too_few_value(alloc: Global, have: u8, need: u8) -> Result<Value, AllocError>
 }
 
 // A month as YYYY-MM.
-fn text_of_month(alloc: Global, month: Month) -> Result<String, AllocError>
+pub(crate) fn text_of_month(alloc: Global, month: Month) -> Result<String, AllocError>
     ensures { IfOk result (λ text. string_bytes text ≡ month_text month.0) }
 {
     let year = month.0 / 12;

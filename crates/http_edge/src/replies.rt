@@ -1,19 +1,22 @@
 // Replies, as the JSON of their answers.
-ghost use Rattle.std.specs.Prelude.{◌≡◌, IfOk, string_bytes};
+ghost use Rattle.std.specs.Prelude.{◌≡◌, true, IfOk, string_bytes};
 ghost use Rattle.hex.specs.Hex.{encode_lower};
 ghost use Rattle.serde_json.specs.View.{view};
-ghost use Rattle.http_edge.specs.Answers.{error_data, result_data, amount_data, segment_data, node_data, customer_data, done_data, reply_data};
+ghost use Rattle.machine_calls.specs.Replies.{is_sayable};
+ghost use Rattle.http_edge.specs.Refusals.{month_text};
+ghost use Rattle.http_edge.specs.Answers.{error_data, result_data, amount_data, closed_data, rates_data, segment_data, node_data, customer_data, done_data, reply_data};
 
 use crate::offers::offer_value;
-use crate::refusals::refusal_value;
+use crate::refusals::{refusal_value, text_of_month};
 use machine_calls::Reply;
 use order_limits::Keys;
-use sat_base::Done;
+use sat_base::{Done, Month};
 use serde_json::{Value, json};
 use std::alloc::{AllocError, Global};
 
 /// The JSON of a reply.
 pub(crate) fn reply_value(alloc: Global, keys: &Keys, reply: &Reply) -> Result<Value, AllocError>
+    requires { is_sayable reply.now ≡ true }
     ensures { IfOk result (λ v. view v ≡ reply_data keys.now reply.now) }
 {
     match reply {
@@ -21,10 +24,26 @@ pub(crate) fn reply_value(alloc: Global, keys: &Keys, reply: &Reply) -> Result<V
         Reply::Settled { amount } => amount_value(alloc, *amount, "settled"),
         Reply::Again { amount } => amount_value(alloc, *amount, "again"),
         Reply::FreeSet => result_value(alloc, "set"),
+        Reply::Closed { month, fresh } => closed_value(alloc, *month, *fresh),
         Reply::Stopping => result_value(alloc, "stopping"),
+        Reply::Exiting { .. } => result_value(alloc, "exiting"),
+        Reply::RatesSet { month } => rates_value(alloc, *month),
         Reply::Refused(refusal) => refusal_value(alloc, refusal),
         Reply::StoreFault { .. } => error_value(alloc, "store"),
         Reply::NoMemory => error_value(alloc, "memory"),
+        Reply::Statement(_)
+        | Reply::AuditPlanned { .. }
+        | Reply::AuditEnded { .. }
+        | Reply::RecheckPlanned { .. }
+        | Reply::RecheckEnded { .. }
+        | Reply::Gone
+        | Reply::RepairPlanned { .. }
+        | Reply::RepairEnded { .. }
+        | Reply::Unrepaired
+        | Reply::Superseded { .. }
+        | Reply::Tallied { .. }
+        | Reply::Exited { .. }
+        | Reply::ExitPlanned { .. } => unreachable!(),
     }
 }
 
@@ -59,6 +78,20 @@ fn amount_value(alloc: Global, amount: u64, how: &str) -> Result<Value, AllocErr
     ensures { IfOk result (λ v. view v ≡ amount_data amount how.now) }
 {
     json!(in alloc; {"amount": amount, "result": how})
+}
+
+fn closed_value(alloc: Global, month: Month, fresh: bool) -> Result<Value, AllocError>
+    ensures { IfOk result (λ v. view v ≡ closed_data fresh (month_text month.0)) }
+{
+    let month = text_of_month(alloc, month)?;
+    json!(in alloc; {"fresh": fresh, "month": month})
+}
+
+fn rates_value(alloc: Global, month: Month) -> Result<Value, AllocError>
+    ensures { IfOk result (λ v. view v ≡ rates_data (month_text month.0)) }
+{
+    let month = text_of_month(alloc, month)?;
+    json!(in alloc; {"month": month, "result": "rates-set"})
 }
 
 fn segment_value(alloc: Global, segment: u64, state: &str) -> Result<Value, AllocError>

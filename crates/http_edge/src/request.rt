@@ -2,9 +2,11 @@
 ghost use Rattle.std.specs.Prelude.{◌≡◌, ◌≤◌, ℕ, List, ◌++◌, length, drop, Some};
 ghost use Rattle.httparse.specs.Grammar.{RequestHead};
 ghost use Rattle.httparse.specs.Spans.{IsRequestAt, IsRequestWithin};
-ghost use Rattle.sat_base.specs.Outside.{with_front, Counts};
+ghost use Rattle.sat_base.specs.Streams.{Took};
+ghost use Rattle.http_edge.specs.Demands.{max_body};
+ghost use Rattle.http_edge.specs.Fetches.{MayReadBody};
 ghost use Rattle.http_edge.specs.Heads.{max_head, max_lines};
-ghost use Rattle.http_edge.specs.Requests.{Outcome, BehindHead, IsBodyOutcome, unread_as, failed_request};
+ghost use Rattle.http_edge.specs.Requests.{Outcome, BehindHead, IsBodyOutcome, MayRead, MayReadBehind, max_request, unread_as, failed_request};
 
 use crate::demand::{Demand, demand_of};
 use crate::fetch::{BodyErr, fetch_body};
@@ -19,13 +21,11 @@ use std::alloc::Global;
 
 /// Reads one request: a head of at most 8192 bytes and 64 header lines (RFC 9112), and then just the rest of
 /// its body (RFC 8259), of at most 65536 bytes. Where the source tells its bytes, the answer is what all bytes
-/// that were left say.
+/// that were left say. Each read was made while the bytes so far didn't decide, or for missing bytes of a body.
 pub fn read_request<S: Source>(alloc: Global, source: &mut S, keys: &Keys) -> Result<Wish, ReadErr>
-    ensures outcome { (all : List ℕ) → S.left source.old ≡ Some all → Outcome keys.now all result }
-    ensures took { (bytes : List ℕ) × (S.left source.old ≡ with_front bytes (S.left source.new)) × (length bytes ≤ 73728) }
-    ensures faults { Counts (failed_request result) (S.read_faults source.old) (S.read_faults source.new) }
-    ensures written { S.written source.new ≡ S.written source.old }
-    ensures write_faults { S.write_faults source.new ≡ S.write_faults source.old }
+    ensures outcome { (all : List ℕ) → (S.about source.old).left ≡ Some all → Outcome keys.now all result }
+    ensures took { (bytes : List ℕ) × Took (MayRead keys.now) bytes 1 (failed_request result)
+        (S.about source.old) (S.about source.new) × (length bytes ≤ max_request) }
 {
     let Ok(mut buf) = vec![in alloc; 0u8; 8192] else {
         return Err(ReadErr::Edge(EdgeErr::NoMemory));
@@ -44,11 +44,9 @@ fn read_into<S: Source>(
 ) -> Result<Wish, ReadErr>
     requires size { length buf.now ≡ max_head }
     requires lines { length headers.now ≡ max_lines }
-    ensures outcome { (all : List ℕ) → S.left source.old ≡ Some all → Outcome keys.now all result }
-    ensures took { (bytes : List ℕ) × (S.left source.old ≡ with_front bytes (S.left source.new)) × (length bytes ≤ 73728) }
-    ensures faults { Counts (failed_request result) (S.read_faults source.old) (S.read_faults source.new) }
-    ensures written { S.written source.new ≡ S.written source.old }
-    ensures write_faults { S.write_faults source.new ≡ S.write_faults source.old }
+    ensures outcome { (all : List ℕ) → (S.about source.old).left ≡ Some all → Outcome keys.now all result }
+    ensures took { (bytes : List ℕ) × Took (MayRead keys.now) bytes 1 (failed_request result)
+        (S.about source.old) (S.about source.new) × (length bytes ≤ max_request) }
 {
     let read = read_head(source, buf, headers);
     match read.end {
@@ -70,12 +68,11 @@ fn behind_head<S: Source>(
     spans: RequestSpans,
 ) -> Result<Wish, ReadErr>
     requires { IsRequestWithin read.now headers.now spans }
-    ensures outcome { (left : List ℕ) → S.left source.old ≡ Some left → (h : RequestHead)
+    ensures outcome { (left : List ℕ) → (S.about source.old).left ≡ Some left → (h : RequestHead)
         → IsRequestAt read.now headers.now spans h → BehindHead keys.now h (drop spans.len read.now ++ left) result }
-    ensures took { (bytes : List ℕ) × (S.left source.old ≡ with_front bytes (S.left source.new)) × (length bytes ≤ 65536) }
-    ensures faults { Counts (failed_request result) (S.read_faults source.old) (S.read_faults source.new) }
-    ensures written { S.written source.new ≡ S.written source.old }
-    ensures write_faults { S.write_faults source.new ≡ S.write_faults source.old }
+    ensures took { (h : RequestHead) → IsRequestAt read.now headers.now spans h
+        → (bytes : List ℕ) × Took (λ taken asked. MayReadBehind keys.now h (drop spans.len read.now ++ taken) asked) bytes 1
+        (failed_request result) (S.about source.old) (S.about source.new) × (length bytes ≤ max_body) }
 {
     match demand_of(keys, read, headers, spans) {
         Demand::Refused(e) => Err(ReadErr::Edge(e)),
@@ -91,12 +88,10 @@ fn with_body<S: Source>(
     read: &[u8],
     size: usize,
 ) -> Result<Wish, ReadErr>
-    requires { size ≤ 65536 }
-    ensures outcome { (left : List ℕ) → S.left source.old ≡ Some left → IsBodyOutcome route size (read.now ++ left) result }
-    ensures took { (bytes : List ℕ) × (S.left source.old ≡ with_front bytes (S.left source.new)) × (length bytes ≤ 65536) }
-    ensures faults { Counts (failed_request result) (S.read_faults source.old) (S.read_faults source.new) }
-    ensures written { S.written source.new ≡ S.written source.old }
-    ensures write_faults { S.write_faults source.new ≡ S.write_faults source.old }
+    requires { size ≤ max_body }
+    ensures outcome { (left : List ℕ) → (S.about source.old).left ≡ Some left → IsBodyOutcome route size (read.now ++ left) result }
+    ensures took { (bytes : List ℕ) × Took (MayReadBody size read.now) bytes 1 (failed_request result)
+        (S.about source.old) (S.about source.new) × (length bytes ≤ max_body) }
 {
     match fetch_body(alloc, source, read, size) {
         Ok(body) => match wish_of(alloc, route, &body) {

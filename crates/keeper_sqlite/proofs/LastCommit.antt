@@ -136,6 +136,12 @@ module _ (first mid last : State) (step : Rows → Rows) (kept : Keeps first mid
     crash = crashes;
   }
 
+-- a commit that was made shows that the store is open
+pub commit_opens : (mid last : State) (r : Result (Unit {0}) Error) → (HasCleanDisk last → OnOk r (IsTrue mid.in_transaction × Shows mid last mid.now mid.now false × KeepsCounts mid last × (last.marks ≡ [])))
+    → HasCleanDisk last → OnOk r (IsTrue last.is_open)
+commit_opens mid last (Ok u) ok clean = (ok clean).1.is_open
+commit_opens mid last (Err e) ok clean = tt
+
 pub one_more : (changes : List Change) (at : ℕ) (change : Change) → at < length changes → change ≡ get_or changes at change → (rows : Rows) → changed (take (at + 1) changes) rows ≡ change_of change (changed (take at changes) rows)
 one_more changes at change lt is rows = ap (λ (cs : List Change). changed cs rows) (take_more changes at change lt ∙ ap (λ (c : Change). take at changes ++ c ∷ []) (sym is)) ∙ changed_push (take at changes) change rows
 

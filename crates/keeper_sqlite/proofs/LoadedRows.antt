@@ -1,13 +1,13 @@
 -- The rows of the select are those of the table.
-use Rattle.std.proofs.Common.{◌≡◌, ◌⊎◌, inl, inr, ℕ, Bool, true, false, ◌&&◌, T, List, [], ◌∷◌, map, codes, None, Some, refl, sym, ap, subst, ◌∙◌, Ordering, Less, Equal, Greater, is_eq}
+use Rattle.std.proofs.Common.{◌≡◌, ◌⊎◌, inl, inr, ℕ, pos, ◌<◌, Bool, true, false, ◌&&◌, T, List, [], ◌∷◌, map, codes, None, Some, refl, sym, ap, subst, ◌∙◌, Ordering, Less, Equal, Greater, is_eq}
 use Rattle.std.specs.Ordering.{eq_by_cmp, is_lt}
 use Rattle.std.specs.FinMap.{entries, from_sorted, entries-from_sorted, get-from_sorted, get-from_entries, same_map}
 use Rattle.std.specs.FinMap.Entries.{find, is_sorted, below_all}
 use Rattle.std.proofs.lemmas.Cmp.{tied_itself}
 use Rattle.std.proofs.lemmas.Bool.{cases_Bool}
 use mathlib.Core.Bool.{false≢true}
-use Rattle.sqlite.specs.declared.types.Value.TheVariants.{Null}
-use Rattle.sqlite.specs.Order.{Row}
+use Rattle.sqlite.specs.declared.types.Value.TheVariants.{Null, Int}
+use Rattle.sqlite.specs.Order.{Row, column}
 use Rattle.sqlite.specs.Tree.{Trees}
 use Rattle.sqlite.specs.Term.{col}
 use Rattle.sqlite.specs.Query.{IsAnswerAs}
@@ -26,6 +26,8 @@ use Rattle.keeper_sqlite.specs.Records.{entry_in, entry_shown, rows_in, Holds}
 use Rattle.keeper_sqlite.proofs.StatementTexts.{by_key, select_is, select_plain, select_unlisted, select_query}
 use Rattle.keeper_sqlite.proofs.Querying.{has_mapped, mapped_has, shown, shows}
 use Rattle.keeper_sqlite.proofs.StoredRows.{equal_is}
+use Rattle.sqlite_rules.proofs.ListLemmas.{all_has, all_from}
+use Rattle.keeper_sqlite.specs.Opened.{HaveByteKinds, ShowByteKinds, IsShownOf}
 
 abbrev Entry : Type 0
 Entry = Key × List ℕ
@@ -110,6 +112,24 @@ module _ (db : Trees) (rows : List Row) (a : IsAnswerAs Null select_query (overl
       let same = same_map keys_total keys_exact (from_sorted {R = key_cmp} (map entry_shown rows)) (rows_in db) (λ q.
       get-from_sorted key_cmp (map entry_shown rows) q sorted ∙ finds_same (map entry_shown rows) (map entry_in (db 0)) (sorted_function _ sorted) members_to members_from q ∙ sym (get-from_entries keys_total (map entry_in (db 0)) q)) in
       is ∙ sym (entries-from_sorted key_cmp (map entry_shown rows) sorted) ∙ ap entries same
+
+  -- each row of the table shows, with its kind
+  pub kinds_shown : ShowByteKinds rows → HaveByteKinds (db 0)
+  kinds_shown bytes = all_from (λ (r : Row). (kind : ℕ) × (column r 1 ≡ Int (pos kind)) × (kind < 256)) (db 0) (λ r here.
+      all_has (λ (r : Row). (kind : ℕ) × (column r 0 ≡ Int (pos kind)) × (kind < 256)) rows _ bytes (shows [] (col 1 1 ∷ col 1 2 ∷ col 1 3 ∷ []) by_key db [] rows a r here refl))
+
+  pub shown_of : IsShownOf db rows
+  shown_of = record { in_order = loaded; kinds = kinds_shown }
+
+pub selects_shown : (old new : State) (has : old.now.schema ≡ record_schema) (rows : List Row) → Shown select_text [] old new rows → IsShownOf old.now.trees rows
+selects_shown old new has rows h =
+    let command = Select (record { lets = []; body = select_query }) (codes "kind" ∷ codes "id" ∷ codes "body" ∷ []) in
+    shown_of old.now.trees rows ((reads_as select_text [] old new record_schema has command select_is select_plain select_unlisted rows h).answer Null)
+
+pub reads_shown : (s t u : State) → t.now ≡ s.now → s.now ≡ s.committed → s.committed.schema ≡ record_schema → (rows : List Row) → Shown select_text [] t u rows → IsShownOf s.committed.trees rows
+reads_shown s t u same settled has rows h =
+    let now : t.now ≡ s.committed = same ∙ settled in
+    subst (λ (d : Database). IsShownOf d.trees rows) now (selects_shown t u (ap (λ (d : Database). d.schema) now ∙ has) rows h)
 
 -- what the select shows of a connection whose schema is the one table
 pub selects : (old new : State) (has : old.now.schema ≡ record_schema) (rows : List Row) → Shown select_text [] old new rows → (list : List Kept) → AreInOrder list → map entry list ≡ map entry_shown rows → AreThe (rows_in old.now.trees) list

@@ -1,15 +1,17 @@
 // The keeper over a connection.
-ghost use Rattle.std.specs.Prelude.{◌≡◌, false, IsTrue, IfOk, refl};
+ghost use Rattle.std.specs.Prelude.{◌≡◌, ◌-◌, ◌^◌, false, IsTrue, IfOk, refl};
 ghost use Rattle.std.specs.FinMap.{empty};
 ghost use Rattle.sqlite.specs.Tree.{Trees};
 ghost use Rattle.sqlite.specs.State.{HasCleanDisk};
 ghost use Rattle.sqlite.specs.Held.{state};
 ghost use Rattle.sqlite.specs.Files.{AreFoundIn};
 ghost use Rattle.sqlite_wal.specs.Recovery.{Image};
-ghost use Rattle.sat_base.specs.Rows.{Rows};
+ghost use Rattle.sat_base.specs.Outside.{Counts, counted};
+ghost use Rattle.sat_base.specs.Rows.{Rows, AreInOrder, AreThe};
+ghost use Rattle.sat_base.specs.Keeper.{IfRows, failed_load};
 ghost use Rattle.keeper_sqlite.specs.Table.{no_schema, record_schema};
 ghost use Rattle.keeper_sqlite.specs.Records.{Holds, rows_in};
-ghost use Rattle.keeper_sqlite.specs.Opened.{HaveByteKinds};
+ghost use Rattle.keeper_sqlite.specs.Opened.{HaveByteKinds, IsListOf, IsRefused};
 ghost use Rattle.keeper_sqlite.specs.Crash.{rows_of_commit};
 
 use crate::loading::rows_of;
@@ -77,26 +79,47 @@ impl<S: Alter> KeeperSqlite<S> {
     }
 }
 
-impl<S: Alter + Drop + Send> Keeper for KeeperSqlite<S> {
-    ghost use Rattle.keeper_sqlite.specs.Shown.{connection_of, state_of, faults_of};
+impl<S: Alter + Drop> Keeper for KeeperSqlite<S> {
+    ghost use Rattle.keeper_sqlite.specs.Shown.{connection_of, state_of, faults_of, rows_kept, StandsOpen, TellsRows, MayLeave};
 
     ghost faults = { λ k. faults_of k };
 
     ghost is_clean = { λ k. HasCleanDisk (state_of k) };
 
-    ghost is_open = { λ k. HasCleanDisk (state_of k) × IsTrue (state_of k).is_open };
+    ghost is_open = { λ k. StandsOpen k };
 
-    ghost tells = { λ k. Holds (state_of k).committed (rows_in (state_of k).committed.trees) };
+    ghost tells = { λ k. TellsRows k };
 
-    ghost rows = { λ k. rows_in (state_of k).committed.trees };
+    ghost rows = { λ k. rows_kept k };
 
-    ghost leaves = { λ k m. (db : Trees) × (state_of k).may_leave db × (rows_in db ≡ m) };
+    ghost leaves = { λ k m. MayLeave k m };
 
     ghost leaves_no_other = { λ k m up told h. rows_of_commit _ _ m h.2 (S.Store.settled (connection_of k).store h.0 up.1 h.1) };
 
     ghost leaves_its_rows = { λ k up told. (_, S.Store.stays (connection_of k).store up.1, refl) };
 
-    fn load(&mut self, alloc: Global) -> Loaded {
+    /// Reads all rows. A row whose kind is no byte, or that doesn't come after the one before it, fails the load
+    /// and is counted, also where the keeper doesn't tell what it keeps.
+    fn load(&mut self, alloc: Global) -> Loaded
+        ensures ordered { IfRows result AreInOrder }
+        ensures clean { HasCleanDisk (state_of self.new) → HasCleanDisk (state_of self.old) }
+        ensures opened { StandsOpen self.new → StandsOpen self.old }
+        ensures told { StandsOpen self.new → TellsRows self.old → TellsRows self.new }
+        ensures kept { StandsOpen self.new → TellsRows self.old → rows_kept self.new ≡ rows_kept self.old }
+        ensures rows { StandsOpen self.new → TellsRows self.old → IfRows result (AreThe (rows_kept self.old)) }
+        ensures crash { HasCleanDisk (state_of self.new) → (m : Rows) → MayLeave self.new m → MayLeave self.old m }
+        ensures faults { Counts (failed_load result) (faults_of self.old) (faults_of self.new) }
+        ensures steady { failed_load result ≡ false → faults_of self.new ≡ faults_of self.old }
+        ensures last { faults_of self.old ≡ 2 ^ 64 - 1 → faults_of self.new ≡ 2 ^ 64 - 1 }
+
+        // Beside what every keeper promises, of a database with the one table alone, told or not: what is loaded are
+        // its rows, each of which has a byte as its kind. So where another kind stands in it, nothing is loaded.
+        ensures listed { StandsOpen self.new → (state_of self.old).committed.schema ≡ record_schema
+            → IfRows result (IsListOf (state_of self.old).committed.trees) }
+        ensures refused { StandsOpen self.new → (state_of self.old).committed.schema ≡ record_schema
+            → ¬ HaveByteKinds ((state_of self.old).committed.trees 0) → IsRefused result (faults_of self.old) (faults_of self.new) }
+        ensures counted { faults_of self.new ≡ counted (failed_load result) (faults_of self.old) }
+    {
         let found = match read(&mut self.conn) {
             Ok(rows) => rows_of(alloc, rows),
             Err(error) => Err(error),

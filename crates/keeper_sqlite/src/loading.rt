@@ -1,7 +1,10 @@
 // Rows of the table as rows of a store.
-ghost use Rattle.std.specs.Prelude.{◌≡◌, ◌++◌, ◌∷◌, [], map, IsTrue, IfOk, IfSome};
+ghost use Rattle.std.specs.Prelude.{◌≡◌, ◌++◌, ◌∷◌, [], map, pos, IsTrue, IfOk, IfSome};
+ghost use Rattle.sqlite.specs.declared.types.Value.TheVariants.{Int};
+ghost use Rattle.sqlite.specs.Order.{column};
 ghost use Rattle.sat_base.specs.Rows.{entry, AreInOrder};
 ghost use Rattle.keeper_sqlite.specs.Records.{entry_shown};
+ghost use Rattle.keeper_sqlite.specs.Opened.{ShowByteKinds};
 
 use sat_base::{Bytes, Row};
 use sqlite::Error;
@@ -12,6 +15,7 @@ use std::cmp::Ordering;
 pub(crate) fn rows_of(alloc: Global, rows: Vec<sqlite::Row>) -> Result<Option<Vec<Row>>, Error>
     ensures order { IfOk result (λ found. IfSome found (λ all. AreInOrder all.items)) }
     ensures same { IfOk result (λ found. IfSome found (λ all. map entry all.items ≡ map entry_shown rows.items)) }
+    ensures kinds { IfOk result (λ found. IfSome found (λ _. ShowByteKinds rows.items)) }
 {
     let mut all = Vec::with_capacity(alloc, rows.len())?;
     for row in rows {
@@ -28,7 +32,8 @@ pub(crate) fn rows_of(alloc: Global, rows: Vec<sqlite::Row>) -> Result<Option<Ve
 
 /// A row of the table, unless its kind isn't a byte.
 fn row_of(row: &sqlite::Row) -> Result<Option<Row>, Error>
-    ensures { IfOk result (λ found. IfSome found (λ out. entry out ≡ entry_shown row.now)) }
+    ensures same { IfOk result (λ found. IfSome found (λ out. entry out ≡ entry_shown row.now)) }
+    ensures byte { IfOk result (λ found. IfSome found (λ out. column row.now 0 ≡ Int (pos out.kind))) }
 {
     let kind: i64 = row.get(0)?;
     let id: Vec<u8> = row.get(1)?;

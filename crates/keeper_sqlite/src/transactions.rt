@@ -8,7 +8,8 @@ ghost use Rattle.sqlite.specs.State.{HasCleanDisk};
 ghost use Rattle.sqlite.specs.Held.{state};
 ghost use Rattle.sat_base.specs.declared.rows.Row.{Row};
 ghost use Rattle.sat_base.specs.Rows.{Rows, entry, changed, AreInOrder, AreThe};
-ghost use Rattle.keeper_sqlite.specs.Table.{no_schema};
+ghost use Rattle.keeper_sqlite.specs.Table.{no_schema, record_schema};
+ghost use Rattle.keeper_sqlite.specs.Opened.{IsShownOf};
 ghost use Rattle.keeper_sqlite.specs.Records.{Holds, entry_shown};
 ghost use Rattle.keeper_sqlite.specs.Transitions.{Keeps, Commits};
 
@@ -23,6 +24,7 @@ pub(crate) fn create<S: Alter>(conn: &mut Connection<S>) -> Result<(), Error>
     ensures commits { Commits (state S.Store conn.old) (state S.Store conn.new) (λ rows. rows) result }
     ensures made { HasCleanDisk (state S.Store conn.new)
         → OnOk result ((state S.Store conn.old).committed.schema ≡ no_schema → Holds (state S.Store conn.new).committed empty) }
+    ensures open { HasCleanDisk (state S.Store conn.new) → OnOk result (IsTrue (state S.Store conn.new).is_open) }
 {
     // outside a transaction nothing waits to be committed
     let _settled = conn.is_autocommit();
@@ -39,6 +41,11 @@ pub(crate) fn read<S: Alter>(conn: &mut Connection<S>) -> Result<Vec<sqlite::Row
     ensures rows { HasCleanDisk (state S.Store conn.new) → IsTrue (state S.Store conn.new).is_open
         → IfOk result (λ rows. (list : List Row) → AreInOrder list → map entry list ≡ map entry_shown rows.items
         → (m : Rows) → Holds (state S.Store conn.old).committed m → AreThe m list) }
+
+    // Whatever the kinds, these are the rows of the table, and each kind in it shows.
+    ensures shown { HasCleanDisk (state S.Store conn.new) → IsTrue (state S.Store conn.new).is_open
+        → (state S.Store conn.old).committed.schema ≡ record_schema
+        → IfOk result (λ rows. IsShownOf (state S.Store conn.old).committed.trees rows.items) }
 {
     let _settled = conn.is_autocommit();
     let mut tx = conn.transaction();
@@ -52,11 +59,12 @@ pub(crate) fn write<S: Alter>(conn: &mut Connection<S>, changes: &[Change]) -> R
     requires { conn.old.in_transaction ≡ false }
     ensures outside { conn.new.in_transaction ≡ false }
     ensures commits { Commits (state S.Store conn.old) (state S.Store conn.new) (changed changes.now) result }
+    ensures open { HasCleanDisk (state S.Store conn.new) → OnOk result (IsTrue (state S.Store conn.new).is_open) }
 {
     let _settled = conn.is_autocommit();
-    // with no statement before it, a commit doesn't show that the store is open
+    // with no statement before it, a commit doesn't show that the store is open; this one changes nothing
     if changes.is_empty() {
-        return Ok(());
+        return create(conn);
     }
     let mut tx = conn.transaction();
     'changes: for change in changes {

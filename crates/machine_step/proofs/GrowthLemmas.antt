@@ -1,7 +1,6 @@
 -- What keeps a rule as the tables grow: time and numbers rise, and nodes and customers stay known.
-use Rattle.std.proofs.Common.{◌≡◌, ℕ, suc, ◌+◌, ◌-◌, ◌*◌, ◌/◌, ◌<◌, ◌≤◌, ◌^◌, zero, Bool, true, false, not, List, [], ◌∷◌, length, Option, Some, None, is_some, refl, sym, ap, subst, ◌∙◌, arith}
-use Rattle.std.specs.Prelude.{if◌then◌else◌, nat_lt, nat_le, ◌==◌, ◌||◌, ◌&&◌, map, slice_get}
-use Rattle.std.specs.List.{list_all}
+use Rattle.std.proofs.Common.{◌≡◌, ℕ, suc, ◌+◌, ◌/◌, ◌<◌, ◌≤◌, ◌^◌, zero, true, not, List, [], ◌∷◌, length, Some, None, is_some, refl, ap, subst, ◌∙◌, arith}
+use Rattle.std.specs.Prelude.{nat_lt, nat_le, slice_get}
 use Rattle.std.proofs.lemmas.Bool.Decides.{nat_tests}
 use Rattle.sat_base.specs.declared.ids.NodeId.{NodeId}
 use Rattle.sat_base.specs.declared.ids.CustomerId.{CustomerId}
@@ -15,9 +14,9 @@ use Rattle.sat_base.specs.declared.requests.Done.TheVariants as dones
 use Rattle.sat_base.specs.declared.requests.Offer.{Offer}
 use Rattle.sat_base.specs.declared.requests.Place.{Place}
 use Rattle.sat_base.specs.declared.requests.Kept.{Kept}
-use Rattle.ordered_rows.specs.Ranks.{customer_rank}
-use Rattle.ordered_rows.specs.Rows.{row_at}
-use Rattle.slotted_rows.specs.Slots.{with_row}
+use Rattle.sat_base.specs.Ranks.{customer_rank}
+use Rattle.rows.specs.Rows.{row_at}
+use Rattle.rows.specs.Slots.{with_row}
 use Rattle.node_registry.specs.declared.node.Node.{Node}
 use Rattle.node_registry.specs.Registry.{node_rank, node_at}
 use Rattle.segment_core.specs.Record.{SegmentRecord}
@@ -34,7 +33,7 @@ pub record AreLater (old new : Marks) : Type 0 where
   pub time : old.time ≤ new.time
   pub segment : old.segment ≤ new.segment
   pub serial : old.serial ≤ new.serial
-  pub plan : new.plan ≡ old.plan
+  pub plan : old.plan ≤ new.plan
   pub month : new.month ≡ old.month
   pub hour : new.hour ≡ old.hour
 
@@ -51,8 +50,8 @@ hour-later hour old new le sound =
 number-later : (old new : ℕ) → old ≤ new → new ≤ 2 ^ 63 → is_next_number old ≡ true → is_next_number new ≡ true
 number-later old new le most sound = grind (arith, nat_tests, sound)
 
-pub marks-later : (setup : Setup) (old new : Marks) → AreLater old new → new.segment ≤ 2 ^ 63 → new.serial ≤ 2 ^ 63 → are_sound_marks setup old ≡ true → are_sound_marks setup new ≡ true
-marks-later setup old new later segment serial sound =
+pub marks-later : (setup : Setup) (old new : Marks) → AreLater old new → new.segment ≤ 2 ^ 63 → new.serial ≤ 2 ^ 63 → new.plan ≤ 2 ^ 63 → are_sound_marks setup old ≡ true → are_sound_marks setup new ≡ true
+marks-later setup old new later segment serial plan sound =
     let first = both _ _ sound in
     let second = both _ _ first.1 in
     let third = both _ _ second.1 in
@@ -64,7 +63,10 @@ marks-later setup old new later segment serial sound =
     (and_of _ _ (ap (λ (m : ℕ). has_begun m new.time) month ∙ begun-later old.month.0 old.time new.time later.time second.0)
     (and_of _ _ (ap (λ (h : ℕ). nat_le h (new.time / 3600 + 1)) hour ∙ hour-later old.hour.0 old.time new.time later.time third.0)
     (and_of _ _ (number-later old.segment new.segment later.segment segment fourth.0)
-    (and_of _ _ (number-later old.serial new.serial later.serial serial fifth.0) (ap is_next_number later.plan ∙ fifth.1)))))
+    (and_of _ _ (number-later old.serial new.serial later.serial serial fifth.0) (number-later old.plan new.plan later.plan plan fifth.1)))))
+
+pub plan-most : (setup : Setup) (marks : Marks) → are_sound_marks setup marks ≡ true → marks.plan ≤ 2 ^ 63
+plan-most setup marks sound = grind (arith, nat_tests, sound)
 
 -- the next numbers are in range
 pub plan-some : (setup : Setup) (marks : Marks) → are_sound_marks setup marks ≡ true → 1 ≤ marks.plan
@@ -206,7 +208,7 @@ pub record Grows (old new : Marks) (nodes nodes' : List Node) (customers custome
 
 module _ (setup : Setup) (old new : Marks) (nodes nodes' : List Node) (customers customers' : List Customer) (grows : Grows old new nodes nodes' customers customers') where
   version-later : (segment : SegmentRecord) → is_sound_version setup old segment ≡ true → is_sound_version setup new segment ≡ true
-  version-later segment sound = let plan = grows.later.plan in rw plan sound
+  version-later segment sound = let plan = grows.later.plan in grind (arith, nat_tests, sound, plan)
 
   pub segment-later : (segment : SegmentRecord) → is_sound_segment setup old nodes customers segment ≡ true → is_sound_segment setup new nodes' customers' segment ≡ true
   segment-later segment sound =

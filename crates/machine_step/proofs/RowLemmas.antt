@@ -1,12 +1,12 @@
 -- What putting a row or removing one does to a list in the order of ranks, and to what is said of each row.
-use Rattle.std.proofs.Common.{◌≡◌, ℕ, suc, ◌+◌, ◌<◌, ◌≤◌, Bool, true, false, not, List, [], ◌∷◌, length, Option, Some, None, is_some, refl, subst, arith}
+use Rattle.std.proofs.Common.{◌≡◌, ℕ, suc, ◌+◌, ◌<◌, ◌≤◌, Bool, true, false, not, List, [], ◌∷◌, length, Some, None, is_some, refl, subst, arith}
 use Rattle.std.specs.Prelude.{if◌then◌else◌, ◌==◌, ◌||◌, ◌&&◌, nat_le}
 use Rattle.std.specs.List.{list_all}
 use Rattle.std.proofs.lemmas.Bool.Decides.{nat_tests}
-use Rattle.ordered_rows.specs.Rows.{row_at, without, AllAbove, IsRising}
-use Rattle.ordered_rows.proofs.Rising.{above_less}
-use Rattle.slotted_rows.specs.Slots.{with_row}
-use Rattle.slotted_rows.proofs.EntryLemmas.{none_above}
+use Rattle.rows.specs.Rows.{row_at, without, AllAbove, IsRising}
+use Rattle.rows.proofs.Rising.{above_less}
+use Rattle.rows.specs.Slots.{with_row}
+use Rattle.rows.proofs.Rising.{none_above}
 use Rattle.machine_step.specs.Rules.{first_bad}
 use Rattle.machine_step.specs.Bounds.{Each}
 
@@ -14,6 +14,22 @@ module _ {R : Type 0} (rank : R → ℕ) where
   pub row_at-with_row : (rows : List R) (row : R) (k : ℕ) → row_at rank (with_row rank rows row) k ≡ (if rank row == k then Some row else row_at rank rows k)
   row_at-with_row [] row k = refl
   row_at-with_row (first ∷ rest) row k = grind (arith, nat_tests, row_at-with_row rest row k)
+
+  -- no row of the rank is left
+  none_left : (rows : List R) (gone k : ℕ) (row : R) → k ≡ gone → row_at rank (without rank rows gone) k ≡ Some row → ⊥
+  none_left [] gone k row same at = cc
+  none_left (first ∷ rest) gone k row same at = grind (arith, nat_tests, same, at, none_left rest gone k row same)
+
+  -- a row that is left was there
+  pub row_at-without : (rows : List R) (gone k : ℕ) (row : R) → row_at rank (without rank rows gone) k ≡ Some row → row_at rank rows k ≡ Some row
+  row_at-without [] gone k row at = cc
+  row_at-without (first ∷ rest) gone k row at = left-here first rest gone k row (row_at-without rest gone k row) at
+    where
+      left-here : (first : R) (rest : List R) (gone k : ℕ) (row : R) → (row_at rank (without rank rest gone) k ≡ Some row → row_at rank rest k ≡ Some row)
+          → row_at rank (without rank (first ∷ rest) gone) k ≡ Some row → row_at rank (first ∷ rest) k ≡ Some row
+      left-here first rest gone k row ih at =
+          let same : k ≡ gone → row_at rank (without rank rest gone) k ≡ Some row → ⊥ = none_left rest gone k row in
+          grind (arith, nat_tests, ih, at, same)
 
   -- the row that is found has the rank
   pub found_rank : (rows : List R) (k : ℕ) (row : R) → row_at rank rows k ≡ Some row → rank row ≡ k

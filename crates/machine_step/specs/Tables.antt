@@ -1,23 +1,34 @@
 -- The tables of a satellite: the records of each kind, in the order of their ids. And how one record changes.
-use Rattle.std.specs.Prelude.{ℕ, ◌*◌, ◌/◌, Bool, ◌==◌, ◌||◌, nat_lt, List, [], ◌∷◌, Option}
-use Rattle.sat_base.specs.declared.ids.NodeId.{NodeId}
-use Rattle.sat_base.specs.declared.month.Month.{Month}
+use Rattle.std.specs.Prelude.{ℕ, ◌*◌, ◌/◌, Bool, ◌==◌, ◌||◌, nat_lt, List, [], ◌∷◌, Option, Some, None, if◌then◌else◌}
+use Rattle.sat_base.specs.declared.ids.CustomerId.{CustomerId}
+use Rattle.sat_base.specs.declared.ids.SegId.{SegId}
 use Rattle.sat_base.specs.declared.settings.Settings.{Settings}
 use Rattle.sat_base.specs.declared.settings.Caps.{Caps}
 use Rattle.sat_base.specs.declared.settings.Marks.{Marks}
 use Rattle.sat_base.specs.declared.settings.Customer.{Customer}
 use Rattle.sat_base.specs.declared.requests.Kept.{Kept}
 use Rattle.sat_base.specs.declared.rates.Tariff.{Tariff}
+use Rattle.sat_base.specs.declared.records.Containment.{Containment}
 use Rattle.sat_base.specs.declared.records.Key.{Key}
 use Rattle.sat_base.specs.declared.records.Key.TheVariants as keys
-use Rattle.ordered_rows.specs.Ranks.{customer_rank, kept_rank}
-use Rattle.ordered_rows.specs.Rows.{row_at, without}
-use Rattle.slotted_rows.specs.Slots.{with_row}
+use Rattle.sat_base.specs.declared.kinds.TheConstants as kinds
+use Rattle.sat_base.specs.Ranks.{containment_rank, customer_rank, kept_rank, tariff_rank}
+use Rattle.rows.specs.Rows.{row_at, without}
+use Rattle.rows.specs.Slots.{with_row}
 use Rattle.node_registry.specs.declared.node.Node.{Node}
+use Rattle.node_registry.specs.declared.node.Left.{Left}
 use Rattle.node_registry.specs.Registry.{node_rank}
 use Rattle.segment_core.specs.Record.{SegmentRecord, segment_rank}
 use Rattle.settlement.specs.declared.row.SettledRow.{SettledRow}
 use Rattle.settlement.specs.Rows.{key}
+use Rattle.tally_payout.specs.declared.amounts.Tally.{Tally}
+use Rattle.tally_payout.specs.declared.amounts.Statement.{Statement}
+use Rattle.tally_payout.specs.Ranks.{tally_rank, statement_rank}
+use Rattle.node_registry.specs.Left.{left_rank}
+use Rattle.audit_core.specs.declared.plan.AuditPlan.{AuditPlan}
+use Rattle.audit_core.specs.declared.rechecking.RecheckPlan.{RecheckPlan}
+use Rattle.repair_core.specs.declared.plan.RepairPlan.{RepairPlan}
+use Rattle.repair_core.specs.declared.plan.ExitPlan.{ExitPlan}
 use Rattle.machine_calls.specs.declared.change.RecChange.{RecChange}
 use Rattle.machine_calls.specs.declared.change.RecChange.TheVariants as changes
 
@@ -55,7 +66,17 @@ pub record Tables : Type 0 where
   pub customers : List Customer
   pub segments : List SegmentRecord
   pub settled : List SettledRow
+  pub tallies : List Tally
+  pub statements : List Statement
+  -- the open plans, one of each kind at most
+  pub audit : Option AuditPlan
+  pub recheck : Option RecheckPlan
+  pub repair : Option RepairPlan
+  pub containments : List Containment
   pub kept : List Kept
+  pub exit : Option ExitPlan
+  -- the nodes that have left
+  pub left : List Left
   pub tariffs : List Tariff
   -- whether the machine was stopped, which is no record
   pub stopped : Bool
@@ -78,20 +99,50 @@ segment_at segments id = row_at segment_rank segments id
 abbrev pub kept_at : List Kept → ℕ → Option Kept
 kept_at kept caller = row_at kept_rank kept caller
 
+-- a segment, if it is the customer's
+abbrev pub if_owned : CustomerId → Option SegmentRecord → Option SegmentRecord
+if_owned customer None = None
+if_owned customer (Some found) = if found.customer.0 == customer.0 then Some found else None
+
+-- the customer's segment of that id
+abbrev pub owned_at : List SegmentRecord → CustomerId → SegId → Option SegmentRecord
+owned_at segments customer id = if_owned customer (segment_at segments id.0)
+
+-- ---- changes
+
+-- a plan of one kind, once the plan of a kind is closed
+abbrev pub closed : {P : Type 0} → ℕ → ℕ → Option P → Option P
+closed own kind plan = if kind == own then None else plan
+
 -- the tables without a record
 abbrev pub removed : Tables → Key → Tables
 removed t (keys.Segment id) = record t { segments = without segment_rank t.segments id.0 }
-removed t (keys.Plan kind) = t
-removed t (keys.Containment node) = t
+removed t (keys.Plan kind) = record t {
+  audit = closed kinds.AUDIT_PLAN kind t.audit;
+  recheck = closed kinds.RECHECK_PLAN kind t.recheck;
+  repair = closed kinds.REPAIR_PLAN kind t.repair;
+  exit = closed kinds.EXIT_PLAN kind t.exit;
+}
+removed t (keys.Containment node) = record t { containments = without containment_rank t.containments node.0 }
 
 -- the tables after one change
 abbrev pub changed : Tables → RecChange → Tables
+changed t (changes.Settings settings) = record t { setup = setup_of settings }
 changed t (changes.Marks marks) = record t { marks = marks }
 changed t (changes.Node node) = record t { nodes = with_row node_rank t.nodes node }
 changed t (changes.Customer customer) = record t { customers = with_row customer_rank t.customers customer }
 changed t (changes.Segment segment) = record t { segments = with_row segment_rank t.segments segment }
 changed t (changes.SettledRow row) = record t { settled = with_row key t.settled row }
+changed t (changes.Tally tally) = record t { tallies = with_row tally_rank t.tallies tally }
+changed t (changes.Statement statement) = record t { statements = with_row statement_rank t.statements statement }
+changed t (changes.AuditPlan plan) = record t { audit = Some plan }
+changed t (changes.RecheckPlan plan) = record t { recheck = Some plan }
+changed t (changes.RepairPlan plan) = record t { repair = Some plan }
+changed t (changes.Containment containment) = record t { containments = with_row containment_rank t.containments containment }
 changed t (changes.Kept kept) = record t { kept = with_row kept_rank t.kept kept }
+changed t (changes.ExitPlan plan) = record t { exit = Some plan }
+changed t (changes.Left left) = record t { left = with_row left_rank t.left left }
+changed t (changes.Tariff tariff) = record t { tariffs = with_row tariff_rank t.tariffs tariff }
 changed t (changes.Remove one) = removed t one
 
 -- the tables after changes, in order

@@ -1,7 +1,23 @@
 //! The step of a satellite's machine, as definitions: its tables and their rules, and what comes of each call. The
 //! crate `sat_machine` has the machine that takes these steps.
+//!
+//! A step is a reply and a list of changes, and the tables after it follow from the list. A call is read from top to
+//! bottom in its file of `specs/Calls`, its refusals in the order in which they are tested. The rules stand in
+//! `specs/Rules.antt`, the bounds of each record in `specs/Bounds.antt`.
+//!
+//! Laws, over all tables and calls:
+//!
+//! - [`a_refusal_changes_nothing`].
+//! - [`each_step_is_answered`]: by a reply that its caller is told, and never by one of a step that wasn't made.
+//! - [`each_step_keeps_the_rules`]: with the order of the rows and the bounds of the records, for a call that is well
+//!   formed.
+//!
+//! The tables name all sixteen kinds of records. Of those that no call makes yet (tallies, statements, plans,
+//! containments, nodes that left) the rules say that there are none.
+//!
+//! Not promised here: that code does so. That is `sat_machine`.
 #![tactic(auto)]
 
 mod laws;
 
-pub use laws::{a_refusal_changes_nothing, an_equal_request_acts_once, each_step_keeps_the_rules};
+pub use laws::{a_refusal_changes_nothing, each_step_is_answered, each_step_keeps_the_rules};

@@ -3,7 +3,7 @@ use Rattle.std.proofs.Common.{List, [], ◌∷◌, ◌++◌, IsSome, arith}
 use Rattle.std.proofs.lemmas.Bool.Decides.{nat_tests}
 use Rattle.sat_base.specs.declared.ids.NodeId.{NodeId}
 use Rattle.sat_base.specs.declared.records.Containment.{Containment}
-use Rattle.ordered_rows.proofs.Found.{row_at-replaced}
+use Rattle.rows.proofs.Found.{row_at-replaced}
 use Rattle.node_registry.specs.declared.node.Node.{Node}
 use Rattle.node_registry.specs.Registry.{node_rank, node_at, with_node, with_containment, released, AllKnown}
 

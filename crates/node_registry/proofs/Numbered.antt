@@ -3,9 +3,9 @@ use Rattle.std.proofs.Common.{◌≡◌, ℕ, zero, suc, ◌+◌, ◌<◌, List,
 use Rattle.std.specs.Prelude.{slice_get, slice_set}
 use Rattle.sat_base.specs.declared.ids.NodeId.{NodeId}
 use Rattle.std.proofs.lemmas.Bool.Decides.{nat_tests}
-use Rattle.ordered_rows.specs.Rows.{row_at, replaced}
+use Rattle.rows.specs.Rows.{row_at, replaced}
 use Rattle.node_registry.specs.declared.node.Node.{Node}
-use Rattle.ordered_rows.proofs.Found.{rank-found}
+use Rattle.rows.proofs.Found.{rank-found}
 use Rattle.node_registry.specs.Registry.{node_rank, node_at, CountsFrom}
 
 pub none_below : (nodes : List Node) (k j : ℕ) → CountsFrom k nodes → j < k → row_at node_rank nodes j ≡ None

@@ -1,3 +1,4 @@
 pub mod Standing
 pub mod Reputation
 pub mod Registry
+pub mod Left

@@ -2,8 +2,8 @@
 use Rattle.std.specs.Prelude.{◌≡◌, ℕ, suc, ◌≤◌, List, [], ◌∷◌, length, Option, IsSome}
 use Rattle.sat_base.specs.declared.ids.NodeId.{NodeId}
 use Rattle.sat_base.specs.declared.records.Containment.{Containment}
-use Rattle.ordered_rows.specs.Ranks.{containment_rank}
-use Rattle.ordered_rows.specs.Rows.{row_at, added, replaced, without}
+use Rattle.sat_base.specs.Ranks.{containment_rank}
+use Rattle.rows.specs.Rows.{row_at, added, replaced, without}
 use Rattle.node_registry.specs.declared.node.Node.{Node}
 
 -- what contracts see: the lists, and for how many more of each there is room

@@ -1,7 +1,7 @@
 ghost use Rattle.std.specs.Prelude.{◌≡◌, ◌/◌};
 ghost use Rattle.node_registry.specs.Standing.{byte_of, is_counted, is_serving};
 
-use sat_base::{Moment, NodeId};
+use sat_base::{Moment, NodeId, Ranked};
 
 /// How a node stands with the satellite.
 #[derive(Clone, Copy, Debug, PartialEq, Eq)]
@@ -72,6 +72,17 @@ impl Node {
 pub struct Left {
     pub node: NodeId,
     pub at: Moment,
+}
+
+/// By its node.
+impl Ranked for Left {
+    ghost use Rattle.node_registry.specs.Left.{left_rank};
+
+    ghost rank = { left_rank };
+
+    fn rank(&self) -> u128 {
+        self.node.0 as u128
+    }
 }
 
 /// The subnet of an IPv4 address: its first three bytes, as a number.

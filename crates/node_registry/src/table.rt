@@ -1,10 +1,10 @@
 ghost use Rattle.std.specs.Prelude.{◌≡◌, ◌+◌, ◌-◌, ◌<◌, ◌≤◌, ◌↔◌, ◌++◌, ◌∷◌, ℕ, [], length, None, Err, IsSome, IfSome, IsOk, OnOk, OnErr, is_ok, if◌then◌else◌, option_copied, vec_capacity, vec_len};
-ghost use Rattle.ordered_rows.specs.Ranks.{containment_rank};
-ghost use Rattle.ordered_rows.specs.Rows.{IsRising};
+ghost use Rattle.sat_base.specs.Ranks.{containment_rank};
+ghost use Rattle.rows.specs.Rows.{IsRising};
 ghost use Rattle.node_registry.specs.Registry.{Nodes, node_at, contained_at, with_node, with_containment, released, IsNumbered, AllKnown, IsKept};
 
 use crate::node::Node;
-use ordered_rows::Rows;
+use rows::Rows;
 use sat_base::{Containment, NoMemory, NodeId};
 use std::alloc::Global;
 use std::marker::Model;

@@ -1,8 +1,18 @@
 //! Keys, order limits and orders: how they are derived, written and read.
 //!
-//! Tags are HMAC-SHA-256 under keys that derive from the satellite's one secret. A limit lets a node
-//! move bytes of one piece; an order says how many were moved. An order is read exactly where its bytes
-//! are those of one.
+//! Tags are HMAC-SHA-256 under keys that derive from the satellite's one secret. A limit lets a node move bytes of
+//! one piece; an order says how many were moved.
+//!
+//! - [`hmac`] is RFC 2104 over SHA-256 (FIPS 180-4). [`Keys`] derives by it, and keeps hash states without changing a
+//!   key.
+//! - [`Limit::write`] and [`Order::write`] give exactly the bytes of the format.
+//! - [`read_order`] and [`read_limit`] read one exactly where the bytes are one (`found`, `only`), and otherwise tell
+//!   the first cause, in the order of [`OrderErr`] (`exact`).
+//!
+//! Nothing here takes memory.
+//!
+//! Not promised: that a tag can't be forged, or that an order is fresh, in time or within its limit. That is
+//! settlement's.
 #![tactic(auto)]
 
 mod bytes;

@@ -1,6 +1,6 @@
 -- What a rebuilding in windows keeps between them.
 use Rattle.std.specs.Prelude.{◌≡◌, ◌*◌, ◌<◌, length, map, All}
-use Rattle.repair_core.specs.Room.{IsRoom, IsMade, cut_short, marked_of}
+use Rattle.repair_core.specs.Room.{IsRoom, IsMade, IsEncoder, cut_short, marked_of}
 use Rattle.repair_core.specs.Progress.{Progress}
 use Rattle.repair_core.specs.declared.rebuilder.Rebuilder.TheInside.{Inside}
 
@@ -23,4 +23,5 @@ pub record IsHeld (held : Inside) : Type 0 where
   pub room : IsRoom held.k held.size held.room.answers.items held.room.spares.items held.room.stripe.items
   pub places : length held.room.answers.items ≡ held.n
   pub made : IsMade held.size held.n held.made.whole held.made.done held.made.marks.items held.made.fresh.items
+  pub encoder : IsEncoder held.k held.size held.made.fresh.items held.made.encoder
   pub below : All (λ index. index < held.n) held.sources.items

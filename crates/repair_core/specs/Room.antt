@@ -4,6 +4,7 @@ use Rattle.std.specs.List.{concat}
 use Rattle.sat_base.specs.declared.items.Share.{Share}
 use Rattle.repair_core.specs.Indexes.{has_index}
 use Rattle.bw_decode.specs.Altered.{is_altered, indexes_of}
+use Rattle.rs_stripe.specs.Encoding.{Encoding}
 use Rattle.repair_core.specs.Stripes.{IsStripe, AreNear, altered_indexes, longer}
 
 -- one of the two has room for a share
@@ -39,6 +40,12 @@ pub record IsMade (size n count done : ℕ) (marks : List Bool) (fresh : List Sh
   pub long : All (λ piece. length piece.bytes ≡ count * size) fresh
   pub within : done ≤ count
   pub few : count ≤ 2 ^ 40
+
+-- an encoder of the shares of these pieces
+pub record IsEncoder (k size : ℕ) (fresh : List Share) (encoder : Encoding) : Type 0 where
+  pub k_is : encoder.k ≡ k
+  pub size_is : encoder.size ≡ size
+  pub indexes_are : encoder.indexes ≡ indexes_of fresh
 
 -- the stripe is near the answers; those that it shows to be altered are marked, and its shares are written
 pub record IsMended (k size : ℕ) (answers : List Share) (done : ℕ) (marks : List Bool) (fresh : List Share) (stripe : List ℕ) (new_marks : List Bool) (new_fresh : List Share) : Type 0 where

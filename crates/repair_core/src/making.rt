@@ -1,5 +1,5 @@
 // Making a segment's fresh pieces a stripe at a time, in room that was taken before.
-ghost use Rattle.std.specs.Prelude.{◌≡◌, ◌≢◌, ◌+◌, ◌*◌, ◌^◌, ◌<◌, ◌≤◌, ◌||◌, ℕ, List, Bool, [], ◌∷◌, false, length, map, filter, slice_index_or, take, All, replicate, IfOk, IfSome, IfNone};
+ghost use Rattle.std.specs.Prelude.{◌≡◌, ◌≢◌, ◌+◌, ◌*◌, ◌^◌, ◌<◌, ◌≤◌, ◌||◌, ℕ, List, Bool, [], ◌∷◌, false, length, map, filter, slice_index, slice_index_or, take, All, replicate, IfOk, IfSome, IfNone};
 ghost use Rattle.sat_base.specs.declared.items.Share.{Share};
 ghost use Rattle.sat_base.specs.Scheme.{stripe_count};
 ghost use Rattle.bw_decode.specs.Altered.{indexes_of, is_altered};
@@ -7,12 +7,12 @@ ghost use Rattle.bw_decode.specs.Near.{IsNear, Rises};
 ghost use Rattle.repair_core.specs.Answers.{answer_bytes, answers_at};
 ghost use Rattle.repair_core.specs.Indexes.{has_index, place_indexes};
 ghost use Rattle.repair_core.specs.Stripes.{IsStripe, IsNoneNear, IsUnclear};
-ghost use Rattle.repair_core.specs.Room.{IsRoomy, AreRoomy, IsWritten, IsRoom, IsMade, IsMended, AreMended, marked_of};
+ghost use Rattle.repair_core.specs.Room.{IsRoomy, AreRoomy, IsWritten, IsRoom, IsMade, IsEncoder, IsMended, AreMended, marked_of};
 
 use crate::plan::RepairPlan;
 use crate::rebuilt::Remade;
 use bw_decode::{Nearness, Scratch, stripe};
-use rs_stripe::encode_share;
+use rs_stripe::Encoder;
 use sat_base::{At, Bytes, Indexes, Items, NoMemory, Scheme, Share};
 use std::alloc::Global;
 use std::mem::replace;
@@ -41,6 +41,8 @@ pub(crate) struct Made {
     pub marks: Vec<bool>,
     /// Whole pieces, of which the finished stripes' shares are written.
     pub fresh: Vec<Share>,
+    /// It makes their shares.
+    pub encoder: Encoder,
 }
 
 impl Room {
@@ -65,6 +67,13 @@ impl Room {
             stripe,
         })
     }
+}
+
+/// The indexes of these places, in order.
+pub(crate) fn indexes_at(alloc: Global, places: &[At]) -> Result<Vec<u8>, NoMemory>
+    ensures { IfOk result (λ indexes. indexes.items ≡ place_indexes places.now) }
+{
+    Ok(places.iter().map(|place| place.index).collect(alloc)?)
 }
 
 // Pieces of `len` bytes for the targets, of which nothing is written.
@@ -102,16 +111,21 @@ impl Made {
         ensures done { IfOk result (λ made. made.done ≡ 0) }
         ensures marks { IfOk result (λ made. made.marks.items ≡ replicate 256 false) }
         ensures indexes { IfOk result (λ made. indexes_of made.fresh.items ≡ place_indexes plan.now.targets) }
+        ensures encoder { IfOk result (λ made. IsEncoder scheme.now.k scheme.now.share made.fresh.items made.encoder) }
     {
         let whole = scheme.stripes(plan.len) as usize;
         let len = scheme.piece_len(plan.len) as usize;
         let marks = Vec::from_elem(alloc, false, 256)?;
-        let fresh = blank_pieces(alloc, plan.targets.as_slice(), len)?;
+        let targets = plan.targets.as_slice();
+        let fresh = blank_pieces(alloc, targets, len)?;
+        let indexes = indexes_at(alloc, targets)?;
+        let encoder = Encoder::new(alloc, scheme, indexes.as_slice())?;
         Ok(Made {
             whole,
             done: 0,
             marks,
             fresh,
+            encoder,
         })
     }
 
@@ -233,32 +247,40 @@ fn mark(marks: &mut [bool], answers: &[Share], altered: &[bool])
     }
 }
 
-// Writes the stripe's share behind those of `done` stripes.
-fn write_share(alloc: Global, scheme: &Scheme, stripe: &[u8], piece: &mut Share, done: usize)
-    requires stripe { length stripe.now ≡ scheme.now.k * scheme.now.share }
-    requires index { piece.old.index < scheme.now.n }
+// Writes the share at this place of the encoder's indexes behind those of `done` stripes.
+fn write_share(alloc: Global, encoder: &Encoder, place: usize, piece: &mut Share, done: usize)
+    requires place { place < length encoder.now.indexes }
+    requires index { piece.old.index ≡ slice_index encoder.now.indexes place }
     requires few { done < 2 ^ 40 }
-    requires room { (done + 1) * scheme.now.share ≤ length piece.old.bytes }
-    ensures { IsWritten scheme.now.k scheme.now.share done stripe.now piece.old piece.new }
+    requires room { (done + 1) * encoder.now.size ≤ length piece.old.bytes }
+    ensures { IsWritten encoder.now.k encoder.now.size done encoder.now.stripe piece.old piece.new }
 {
-    let size = usize::from(scheme.share);
+    let size = encoder.size();
     let mut bytes = replace(&mut piece.bytes, Items::of(Vec::new(alloc))).into_vec();
     let out = &mut bytes.as_mut_slice()[done * size..done * size + size];
-    encode_share(scheme, stripe, piece.index, out);
+    encoder.write_share(place, out);
     piece.bytes = Items::of(bytes);
 }
 
 // Writes the stripe's share of each piece.
-fn write_shares(alloc: Global, scheme: &Scheme, stripe: &[u8], fresh: &mut [Share], done: usize)
-    requires stripe { length stripe.now ≡ scheme.now.k * scheme.now.share }
+fn write_shares(
+    alloc: Global,
+    encoder: &mut Encoder,
+    stripe: &[u8],
+    fresh: &mut [Share],
+    done: usize,
+)
+    requires stripe { length stripe.now ≡ encoder.old.k * encoder.old.size }
+    requires encoder { encoder.old.indexes ≡ indexes_of fresh.old }
     requires few { done < 2 ^ 40 }
-    requires below { All (λ piece. piece.index < scheme.now.n) fresh.old }
-    requires room { All (λ piece. (done + 1) * scheme.now.share ≤ length piece.bytes) fresh.old }
-    ensures { (i : ℕ) (d : Share) → i < length fresh.old → IsWritten scheme.now.k scheme.now.share done stripe.now
+    requires room { All (λ piece. (done + 1) * encoder.old.size ≤ length piece.bytes) fresh.old }
+    ensures written { (i : ℕ) (d : Share) → i < length fresh.old → IsWritten encoder.old.k encoder.old.size done stripe.now
         (slice_index_or fresh.old i d) (slice_index_or fresh.new i d) }
+    ensures encoder { IsEncoder encoder.old.k encoder.old.size fresh.new encoder.new }
 {
+    encoder.hold(stripe);
     for i in 0..fresh.len() {
-        write_share(alloc, scheme, stripe, &mut fresh[i], done);
+        write_share(alloc, encoder, i, &mut fresh[i], done);
     }
 }
 
@@ -281,11 +303,13 @@ pub(crate) fn mend(
     requires places { length pieces.now ≤ length room.old.answers.items }
     requires room { IsRoom scheme.now.k scheme.now.share room.old.answers.items room.old.spares.items room.old.stripe.items }
     requires made { IsMade scheme.now.share scheme.now.n made.old.whole made.old.done made.old.marks.items made.old.fresh.items }
+    requires encoder { IsEncoder scheme.now.k scheme.now.share made.old.fresh.items made.old.encoder }
     requires left { made.old.done < made.old.whole }
     ensures near { result ≡ Nearness.Near → IsMended scheme.now.k scheme.now.share (answers_at scheme.now.share count s pieces.now)
         made.old.done made.old.marks.items made.old.fresh.items room.new.stripe.items made.new.marks.items made.new.fresh.items }
     ensures made { result ≡ Nearness.Near
         → IsMade scheme.now.share scheme.now.n made.new.whole made.new.done made.new.marks.items made.new.fresh.items }
+    ensures encoder { result ≡ Nearness.Near → IsEncoder scheme.now.k scheme.now.share made.new.fresh.items made.new.encoder }
     ensures done { result ≡ Nearness.Near → made.new.done ≡ made.old.done + 1 }
     ensures whole { made.new.whole ≡ made.old.whole }
     ensures unclear { result ≡ Nearness.Unclear → IsNoneNear scheme.now.k scheme.now.share (answers_at scheme.now.share count s pieces.now) }
@@ -317,7 +341,13 @@ pub(crate) fn mend(
     if nearness == Nearness::Near {
         mark(made.marks.as_mut_slice(), answers, altered);
         let fresh = made.fresh.as_mut_slice();
-        write_shares(room.alloc, scheme, room.stripe.as_slice(), fresh, made.done);
+        write_shares(
+            room.alloc,
+            &mut made.encoder,
+            room.stripe.as_slice(),
+            fresh,
+            made.done,
+        );
         made.done += 1;
     }
     nearness
@@ -339,11 +369,13 @@ pub(crate) fn mend_all(
     requires places { length pieces.now ≤ length room.old.answers.items }
     requires room { IsRoom scheme.now.k scheme.now.share room.old.answers.items room.old.spares.items room.old.stripe.items }
     requires made { IsMade scheme.now.share scheme.now.n made.old.whole made.old.done made.old.marks.items made.old.fresh.items }
+    requires encoder { IsEncoder scheme.now.k scheme.now.share made.old.fresh.items made.old.encoder }
     requires left { made.old.done + count ≤ made.old.whole }
     ensures mended { IfNone result (AreMended scheme.now.k scheme.now.share count pieces.now count
         made.old.done made.old.marks.items made.old.fresh.items made.new.marks.items made.new.fresh.items) }
     ensures done { IfNone result (made.new.done ≡ made.old.done + count) }
     ensures made { IfNone result (IsMade scheme.now.share scheme.now.n made.new.whole made.new.done made.new.marks.items made.new.fresh.items) }
+    ensures encoder { IfNone result (IsEncoder scheme.now.k scheme.now.share made.new.fresh.items made.new.encoder) }
     ensures whole { IfNone result (made.new.whole ≡ made.old.whole) }
     ensures room { IfNone result (IsRoom scheme.now.k scheme.now.share room.new.answers.items room.new.spares.items room.new.stripe.items) }
     ensures places { IfNone result (length room.new.answers.items ≡ length room.old.answers.items) }

@@ -1,5 +1,8 @@
 // What a repair is to do, and what comes of it.
-use sat_base::{At, Items, Moment, SegId, Serial};
+ghost use Rattle.std.specs.Prelude.{◌≡◌, IfOk};
+
+use sat_base::{At, Items, Moment, NoMemory, SegId, Serial};
+use std::alloc::Global;
 
 /// A repair of a segment: which pieces are read, and where fresh ones are to lie.
 #[derive(Debug, PartialEq, Eq, Drop)]
@@ -22,6 +25,24 @@ pub struct RepairPlan {
     pub targets: Items<At>,
 }
 
+impl RepairPlan {
+    /// The same plan again.
+    pub fn copy(&self, alloc: Global) -> Result<RepairPlan, NoMemory>
+        ensures { IfOk result (λ plan. plan ≡ self.now) }
+    {
+        Ok(RepairPlan {
+            plan: self.plan,
+            segment: self.segment,
+            version: self.version,
+            serial: self.serial,
+            issued: self.issued,
+            len: self.len,
+            sources: self.sources.copy(alloc)?,
+            targets: self.targets.copy(alloc)?,
+        })
+    }
+}
+
 /// A repair that makes the piece of a node that leaves afresh elsewhere.
 #[derive(Debug, PartialEq, Eq, Drop)]
 pub struct ExitPlan {
@@ -29,4 +50,16 @@ pub struct ExitPlan {
     pub leaving: At,
     /// The repair.
     pub plan: RepairPlan,
+}
+
+impl ExitPlan {
+    /// The same plan again.
+    pub fn copy(&self, alloc: Global) -> Result<ExitPlan, NoMemory>
+        ensures { IfOk result (λ plan. plan ≡ self.now) }
+    {
+        Ok(ExitPlan {
+            leaving: self.leaving,
+            plan: self.plan.copy(alloc)?,
+        })
+    }
 }

@@ -8,11 +8,11 @@ ghost use Rattle.repair_core.specs.Indexes.{has_index, place_indexes};
 ghost use Rattle.repair_core.specs.Stripes.{HasNear};
 ghost use Rattle.repair_core.specs.Windows.{start_of, next_stripes, IsWindow, IsUnclearWindow};
 
-use crate::making::{Made, Room, mend_all};
+use crate::making::{Made, Room, indexes_at, mend_all};
 use crate::plan::RepairPlan;
 use crate::rebuilt::{Remade, WindowErr};
 use bw_decode::Scratch;
-use sat_base::{At, NoMemory, Scheme, Share};
+use sat_base::{NoMemory, Scheme, Share};
 use std::alloc::Global;
 use std::marker::Model;
 
@@ -41,12 +41,6 @@ impl Model for Rebuilder {
     ghost invariant = { IsHeld };
 }
 
-fn source_indexes(alloc: Global, places: &[At]) -> Result<Vec<u8>, NoMemory>
-    ensures { IfOk result (λ indexes. indexes.items ≡ place_indexes places.now) }
-{
-    Ok(places.iter().map(|place| place.index).collect(alloc)?)
-}
-
 impl Rebuilder {
     /// A rebuilding by the plan in windows of so many stripes. It takes all memory that is needed: the fresh pieces,
     /// and room for one stripe and its answers. Its one error is want of memory.
@@ -64,7 +58,7 @@ impl Rebuilder {
             (stripe_count scheme.now.k scheme.now.share plan.now.len)
             (place_indexes plan.now.sources) (place_indexes plan.now.targets)) }
     {
-        let sources = source_indexes(alloc, plan.sources.as_slice())?;
+        let sources = indexes_at(alloc, plan.sources.as_slice())?;
         let room = Room::new(alloc, scheme, usize::from(scheme.n))?;
         let made = Made::new(alloc, scheme, plan)?;
         Ok(Rebuilder {

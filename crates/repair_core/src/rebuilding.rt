@@ -8,7 +8,7 @@ ghost use Rattle.repair_core.specs.Indexes.{place_indexes};
 ghost use Rattle.repair_core.specs.Stripes.{HasNear, IsUnclear};
 ghost use Rattle.repair_core.specs.Rebuilt.{IsRebuilt};
 ghost use Rattle.repair_core.specs.Refusals.{IsRefusal};
-ghost use Rattle.repair_core.specs.Room.{IsRoom, IsMade, AreKept};
+ghost use Rattle.repair_core.specs.Room.{IsRoom, IsMade, IsEncoder, AreKept};
 
 use crate::making::{Made, Room, mend};
 use crate::plan::RepairPlan;
@@ -48,6 +48,7 @@ fn mend_whole(
     requires places { length pieces.now ≤ length room.old.answers.items }
     requires room { IsRoom scheme.now.k scheme.now.share room.old.answers.items room.old.spares.items room.old.stripe.items }
     requires made { IsMade scheme.now.share scheme.now.n made.old.whole made.old.done made.old.marks.items made.old.fresh.items }
+    requires encoder { IsEncoder scheme.now.k scheme.now.share made.old.fresh.items made.old.encoder }
     requires start { made.old.done ≡ 0 }
     ensures kept { IfOk result (λ bytes. AreKept scheme.now.k scheme.now.share made.old.whole pieces.now made.old.whole
         0 made.old.marks.items made.old.fresh.items made.new.marks.items made.new.fresh.items bytes.items) }

@@ -1,3 +1,5 @@
 pub mod ShareLemmas
 pub mod SegmentLemmas
 pub mod Barycentric
+pub mod ManyShares
+pub mod ManyPieces

@@ -1,5 +1,5 @@
 -- A share as a sum of the data bytes, each times a number that the data do not change.
-use Rattle.std.specs.Prelude.{◌≡◌, ℕ, ◌<◌}
+use Rattle.std.specs.Prelude.{◌≡◌, ℕ, ◌+◌, ◌*◌, ◌<◌, List, length, slice_index}
 use Rattle.gf256.specs.Field.{◌⊗◌, inverse}
 use Rattle.gf256.specs.Sums.{total}
 use Rattle.gf_linear.specs.Lagrange.{basis}
@@ -20,3 +20,9 @@ AreWeights k x w = (d : ℕ → ℕ) → share k d x ≡ weighted k w d
 -- d are the divisors of the points X i for i below n
 abbrev pub AreDivisors : ℕ → (ℕ → ℕ) → (ℕ → ℕ) → Type 0
 AreDivisors n X d = (i : ℕ) → i < n → d i ≡ inverse (basis X n i (X i))
+
+-- the rows of a matrix are the weights of the shares of these indexes
+abbrev pub AreMatrix : ℕ → List ℕ → List ℕ → Type 0
+AreMatrix k indexes matrix =
+    (t : ℕ) → t < length indexes
+    → AreWeights k (slice_index indexes t) (λ i. slice_index matrix (t * k + i))

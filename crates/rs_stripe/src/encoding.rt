@@ -35,9 +35,9 @@ pub fn encode_column_with(scheme: &Scheme, divisors: &[u8], column: &[u8], index
     weighted_sum(weights, column)
 }
 
-// Run `number` of bytes that are cut into runs of `size` bytes. It is shorter at the end of the
-// bytes, and empty past it.
-fn run_of(bytes: &[u8], number: usize, size: usize) -> &[u8]
+/// Run `number` of bytes that are cut into runs of `size` bytes. It is shorter at the end of the
+/// bytes, and empty past it.
+pub(crate) fn run_of(bytes: &[u8], number: usize, size: usize) -> &[u8]
     requires { number * size + size < 2 ^ 64 }
     ensures len { length result.now ≤ size }
     ensures value { (c : ℕ) → c < size

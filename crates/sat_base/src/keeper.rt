@@ -1,6 +1,6 @@
 // The trait of what keeps rows. What is loaded and committed is spoken of where the keeper tells, and
 // so is what it has at opening after a crash.
-ghost use Rattle.std.specs.Prelude.{◌≡◌, ◌⊎◌, ◌-◌, ◌^◌, ℕ};
+ghost use Rattle.std.specs.Prelude.{◌≡◌, ◌⊎◌, ◌-◌, ◌^◌, ℕ, false};
 ghost use Rattle.sat_base.specs.Outside.{Counts};
 ghost use Rattle.sat_base.specs.Rows.{Rows, AreInOrder, AreThe, changed};
 ghost use Rattle.sat_base.specs.Keeper.{IfRows, CommitsTo, failed_load, failed_commit};
@@ -35,7 +35,7 @@ pub enum Committed {
 /// A keeper on a disk can't always tell what it keeps: others may have written there, or the disk
 /// have answered wrongly, or a failure have shut it. So each clause goes from what stood before a call
 /// to what stands after it, under the premises that it names.
-pub trait Keeper: Drop + Send {
+pub trait Keeper: Drop {
     /// How many calls have failed. It stands still at 2^64 - 1.
     ghost faults: { Self → ℕ };
 
@@ -64,10 +64,12 @@ pub trait Keeper: Drop + Send {
         ensures rows { is_open self.new → tells self.old → IfRows result (AreThe (rows self.old)) }
         ensures crash { is_clean self.new → (m : Rows) → leaves self.new m → leaves self.old m }
         ensures faults { Counts (failed_load result) (faults self.old) (faults self.new) }
+        ensures steady { failed_load result ≡ false → faults self.new ≡ faults self.old }
         ensures last { faults self.old ≡ 2 ^ 64 - 1 → faults self.new ≡ 2 ^ 64 - 1 };
 
     /// Makes the changes in order, all of them or none. A crash within it leaves the rows as they were
-    /// or with all changes made, and so does a commit that failed.
+    /// or with all changes made, and so does a commit that failed. One that is done shows that nothing had
+    /// shut the keeper, also where there were no changes.
     fn commit(&mut self, alloc: Global, changes: &[Change]) -> Committed
         ensures clean { is_clean self.new → is_clean self.old }
         ensures opened { is_open self.new → is_open self.old }
@@ -76,7 +78,9 @@ pub trait Keeper: Drop + Send {
             → CommitsTo result (rows self.old) (changed changes.now (rows self.old)) (rows self.new) }
         ensures crash { is_clean self.new → (m : Rows) → leaves self.new m → leaves self.old m
             ⊎ (is_open self.old × (tells self.old → m ≡ changed changes.now (rows self.old))) }
+        ensures open { result ≡ Committed.Done → is_clean self.new → is_open self.new }
         ensures faults { Counts (failed_commit result) (faults self.old) (faults self.new) }
+        ensures steady { failed_commit result ≡ false → faults self.new ≡ faults self.old }
         ensures last { faults self.old ≡ 2 ^ 64 - 1 → faults self.new ≡ 2 ^ 64 - 1 };
 
     /// How many calls have failed. It stands still at 2^64 - 1.

@@ -1,6 +1,6 @@
-ghost use Rattle.std.specs.Prelude.{None, ◌≡◌};
+ghost use Rattle.std.specs.Prelude.{◌≡◌};
 ghost use Rattle.std.specs.Io.{ReadsAtMost, WritesAtMost};
-ghost use Rattle.sat_devices.specs.Faults.{Faults};
+ghost use Rattle.sat_devices.specs.Faults.{Faults, device_about};
 
 use sat_base::{Given, Link, Outside, Sink, Source, Taken};
 use std::io;
@@ -34,6 +34,20 @@ impl<R: Read + Drop, W: Write + Drop> Console<R, W> {
             write_faults: 0,
         }
     }
+
+    /// How many reads have failed, up to 2^64 - 1.
+    pub fn read_faults(&self) -> u64
+        ensures { result ≡ self.now.reads }
+    {
+        self.read_faults
+    }
+
+    /// How many puts have failed, up to 2^64 - 1.
+    pub fn write_faults(&self) -> u64
+        ensures { result ≡ self.now.writes }
+    {
+        self.write_faults
+    }
 }
 
 // Reads once. A read that a signal interrupted has taken nothing, and is made again.
@@ -63,13 +77,7 @@ fn write_once<W: Write>(output: &mut W, piece: &[u8]) -> io::Result<usize>
 }
 
 impl<R: Read + Drop, W: Write + Drop> Outside for Console<R, W> {
-    ghost left = { λ c. None };
-
-    ghost written = { λ c. None };
-
-    ghost read_faults = { λ c. c.reads };
-
-    ghost write_faults = { λ c. c.writes };
+    ghost about = { device_about };
 }
 
 impl<R: Read + Drop, W: Write + Drop> Source for Console<R, W> {

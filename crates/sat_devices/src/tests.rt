@@ -68,17 +68,28 @@ fn faulty() -> Script {
 fn passes_counts_on_and_tells_faults(rt: HostRuntime) {
     let mut console = Console::new(faulty(), faulty());
     let mut buf = [0u8; 4];
-    let taken = [Taken::Count(2), Taken::Failed, Taken::Count(4), Taken::End];
-    for answer in taken {
+    for (answer, faults) in [
+        (Taken::Count(2), 0),
+        (Taken::Failed, 1),
+        (Taken::Count(4), 1),
+        (Taken::End, 1),
+    ] {
         assert_eq!(rt; console.read(&mut buf), answer);
+        assert_eq!(rt;
+            (console.read_faults(), console.write_faults()),
+            (faults, 0)
+        );
     }
-    let given = [
-        Given::Count(2),
-        Given::Failed,
-        Given::Count(4),
-        Given::Failed,
-    ];
-    for answer in given {
+    for (answer, faults) in [
+        (Given::Count(2), 0),
+        (Given::Failed, 1),
+        (Given::Count(4), 1),
+        (Given::Failed, 2),
+    ] {
         assert_eq!(rt; console.put(b"four"), answer);
+        assert_eq!(rt;
+            (console.read_faults(), console.write_faults()),
+            (1, faults)
+        );
     }
 }

@@ -4,3 +4,5 @@ pub mod PieceLemmas
 pub mod StepLemmas
 pub mod CaseLemmas
 pub mod OpeningLemmas
+pub mod MadeLemmas
+pub mod BrokenLemmas

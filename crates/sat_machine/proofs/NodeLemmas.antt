@@ -2,8 +2,8 @@
 use Rattle.std.proofs.Common.{◌≡◌, ℕ, suc, ◌+◌, ◌<◌, ◌≤◌, Bool, true, false, List, [], ◌∷◌, ◌++◌, length, Option, Some, None, IsSome, refl, ap, arith, rules}
 use Rattle.std.specs.Prelude.{if◌then◌else◌, ◌==◌, nat_lt}
 use Rattle.std.proofs.lemmas.Bool.Decides.{nat_tests}
-use Rattle.ordered_rows.specs.Rows.{row_at, added, replaced}
-use Rattle.slotted_rows.specs.Slots.{with_row}
+use Rattle.rows.specs.Rows.{row_at, added, replaced}
+use Rattle.rows.specs.Slots.{with_row}
 use Rattle.node_registry.specs.declared.node.Node.{Node}
 use Rattle.node_registry.specs.Registry.{node_rank, CountsFrom}
 

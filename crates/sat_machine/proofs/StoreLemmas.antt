@@ -1,14 +1,17 @@
 -- Room that is made for one change after another, and changes made one after another.
-use Rattle.std.proofs.Common.{◌≡◌, ℕ, zero, suc, ◌<◌, List, [], ◌∷◌, ◌++◌, length, take, drop, get_or, reverse, refl, ap, arith}
+use Rattle.std.proofs.Common.{◌≡◌, ℕ, true, zero, suc, ◌<◌, List, [], ◌∷◌, ◌++◌, length, take, drop, get_or, reverse, refl, ap, arith}
 use Rattle.std.proofs.lemmas.List.{reverse-append}
 use Rattle.std.specs.Prelude.{Result, Ok, Err, OnOk}
 use Rattle.node_registry.specs.declared.node.Node.{Node}
 use Rattle.node_registry.specs.Registry.{Nodes}
 use Rattle.machine_calls.specs.declared.change.RecChange.{RecChange}
+use Rattle.std.specs.List.{list_all}
+use Rattle.sat_base.specs.declared.records.Key.TheVariants as keys
 use Rattle.machine_calls.specs.declared.change.RecChange.TheVariants as changes
+use Rattle.machine_step.proofs.RowLemmas.{both}
 use Rattle.machine_step.specs.Tables.{Tables}
 use Rattle.sat_machine.specs.declared.store.Store.{Store}
-use Rattle.sat_machine.specs.Store.{IsPlaceable, ArePlaceable, IsNodePlaced, IsPlaced, ArePlaced, Spares, SparesAll}
+use Rattle.sat_machine.specs.Store.{IsPlaceable, ArePlaceable, IsNodePlaced, IsPlaced, ArePlaced, spares}
 
 -- what keeps each room keeps them all
 pub placed-kept : (s t : Store) (cs : List RecChange) → ((c : RecChange) → IsPlaced s c → IsPlaced t c) → ArePlaced s cs → ArePlaced t cs
@@ -21,9 +24,11 @@ placed-more s [] c placed one = (one, tt)
 placed-more s (d ∷ cs) c placed one = (placed.0, placed-more s cs c placed.1 one)
 
 -- after a change, the later ones still have room
-pub placed-spared : (s t : Store) (first : RecChange) (cs : List RecChange) → ((c : RecChange) → Spares first c → IsPlaced s c → IsPlaced t c) → SparesAll first cs → ArePlaced s cs → ArePlaced t cs
+pub placed-spared : (s t : Store) (first : RecChange) (cs : List RecChange) → ((c : RecChange) → spares first c ≡ true → IsPlaced s c → IsPlaced t c) → list_all (spares first) cs ≡ true → ArePlaced s cs → ArePlaced t cs
 placed-spared s t first [] keeps spared placed = tt
-placed-spared s t first (c ∷ cs) keeps spared placed = (keeps c spared.0 placed.0, placed-spared s t first cs keeps spared.1 placed.1)
+placed-spared s t first (c ∷ cs) keeps spared placed =
+    let parts = both (spares first c) (list_all (spares first) cs) spared in
+    (keeps c parts.0 placed.0, placed-spared s t first cs keeps parts.1 placed.1)
 
 -- the last of a list is the first of its reverse
 pub reverse-last : {A : Type 0} (xs : List A) (x : A) → reverse (xs ++ x ∷ []) ≡ x ∷ reverse xs
@@ -36,13 +41,25 @@ placeable-at t (d ∷ before) c after placeable = placeable-at t before c after 
 
 -- other nodes leave the room of all else
 pub kept-nodes : (s : Store) (nodes : Nodes) → ((node : Node) → IsNodePlaced s.nodes node → IsNodePlaced nodes node) → (c : RecChange) → IsPlaced s c → IsPlaced (record s { nodes = nodes }) c
-kept-nodes s nodes keeps (changes.Marks marks) placed = tt
-kept-nodes s nodes keeps (changes.Node node) placed = keeps node placed
-kept-nodes s nodes keeps (changes.Customer customer) placed = placed
-kept-nodes s nodes keeps (changes.Segment segment) placed = placed
-kept-nodes s nodes keeps (changes.SettledRow row) placed = placed
-kept-nodes s nodes keeps (changes.Kept kept) placed = placed
-kept-nodes s nodes keeps (changes.Remove one) placed = tt
+kept-nodes s nodes keeps (changes.Settings r) placed = absurd placed
+kept-nodes s nodes keeps (changes.Marks r) placed = tt
+kept-nodes s nodes keeps (changes.Node r) placed = keeps r placed
+kept-nodes s nodes keeps (changes.Customer r) placed = placed
+kept-nodes s nodes keeps (changes.Segment r) placed = placed
+kept-nodes s nodes keeps (changes.SettledRow r) placed = placed
+kept-nodes s nodes keeps (changes.Tally r) placed = absurd placed
+kept-nodes s nodes keeps (changes.Statement r) placed = absurd placed
+kept-nodes s nodes keeps (changes.AuditPlan r) placed = absurd placed
+kept-nodes s nodes keeps (changes.RecheckPlan r) placed = absurd placed
+kept-nodes s nodes keeps (changes.RepairPlan r) placed = absurd placed
+kept-nodes s nodes keeps (changes.Containment r) placed = absurd placed
+kept-nodes s nodes keeps (changes.Kept r) placed = placed
+kept-nodes s nodes keeps (changes.ExitPlan r) placed = absurd placed
+kept-nodes s nodes keeps (changes.Left r) placed = absurd placed
+kept-nodes s nodes keeps (changes.Tariff r) placed = absurd placed
+kept-nodes s nodes keeps (changes.Remove (keys.Segment id)) placed = tt
+kept-nodes s nodes keeps (changes.Remove (keys.Plan kind)) placed = absurd placed
+kept-nodes s nodes keeps (changes.Remove (keys.Containment node)) placed = absurd placed
 
 pub on_ok : {T E : Type 0} {P : Type 0} (r : Result T E) → P → OnOk r P
 on_ok (Ok x) p = p

@@ -4,7 +4,7 @@ use Rattle.std.specs.Option.{option_map}
 use Rattle.std.specs.declared.snapshot.Snapshot.{Snapshot}
 use Rattle.machine_calls.specs.declared.call.Call.{Call}
 use Rattle.machine_step.specs.Tables.{Tables}
-use Rattle.machine_step.specs.Step.{step, IsTimely}
+use Rattle.machine_step.specs.Step.{step, IsWellFormed}
 use Rattle.machine_step.specs.Bounds.{IsValid}
 use Rattle.sat_machine.specs.declared.store.Store.{Store}
 use Rattle.sat_machine.specs.Store.{tables_of, GoesBySettings, ArePlaced}
@@ -16,9 +16,9 @@ pub record Machine : Type 0 where
 abbrev pub call_of : Option (Snapshot Call) → Option Call
 call_of pending = option_map (λ snapshot. snapshot.value) pending
 
--- the moment of a pending call is one, and there is room for the changes of its step
+-- a pending call is well formed, and there is room for the changes of its step
 pub record IsPrepared (s : Store) (call : Call) : Type 0 where
-  pub timely : IsTimely call
+  pub formed : IsWellFormed (tables_of s) call
   pub placed : ArePlaced s (step (tables_of s) call).changes
 
 -- what holds of every machine

@@ -2,14 +2,18 @@
 use Rattle.std.specs.Prelude.{◌≡◌, ℕ, ◌≤◌, false, List, [], ◌∷◌, length, Option, Some, None, Result, Ok, Err}
 use Rattle.sat_base.specs.declared.settings.Settings.{Settings}
 use Rattle.sat_base.specs.declared.settings.Marks.{Marks}
-use Rattle.ordered_rows.specs.Ranks.{customer_rank, kept_rank, tariff_rank}
-use Rattle.ordered_rows.specs.Rows.{IsRising}
+use Rattle.sat_base.specs.Ranks.{containment_rank, customer_rank, kept_rank, tariff_rank}
+use Rattle.rows.specs.Rows.{IsRising}
 use Rattle.segment_core.specs.Record.{segment_rank}
 use Rattle.settlement.specs.Rows.{key}
 use Rattle.machine_calls.specs.declared.parts.Parts0.{Parts0}
+use Rattle.tally_payout.specs.Ranks.{tally_rank, statement_rank}
+use Rattle.node_registry.specs.Left.{left_rank}
 use Rattle.machine_step.specs.Tables.{Tables, setup_of}
+use Rattle.sat_base.specs.declared.kinds.TheConstants as kinds
+use Rattle.machine_calls.specs.declared.rules.TheConstants as rules
 use Rattle.machine_step.specs.Bounds.{Each, IsSetupWithin, AreMarksWithin, IsSegmentWithin, IsKeptWithin, IsTariffWithin}
-use Rattle.machine_step.specs.Rules.{Broken, broken, first_broken}
+use Rattle.machine_step.specs.Rules.{Broken, broken, first_of, broken_tallies, broken_statements, broken_plan, broken_containments, broken_left, first_broken}
 use Rattle.sat_machine.specs.declared.opening.CoreErr.{CoreErr}
 use Rattle.sat_machine.specs.declared.opening.CoreErr.TheVariants as errs
 
@@ -20,7 +24,15 @@ pub record AreParts (parts : Parts0) : Type 0 where
   pub customers : IsRising customer_rank parts.customers.items
   pub segments : IsRising segment_rank parts.segments.items
   pub settled : IsRising key parts.settled.items
+  pub tallies : IsRising tally_rank parts.tallies.items
+  pub statements : IsRising statement_rank parts.statements.items
+  pub one_audit : length parts.audit_plans.items ≤ 1
+  pub one_recheck : length parts.recheck_plans.items ≤ 1
+  pub one_repair : length parts.repair_plans.items ≤ 1
+  pub containments : IsRising containment_rank parts.containments.items
   pub kept : IsRising kept_rank parts.kept.items
+  pub one_exit : length parts.exit_plans.items ≤ 1
+  pub left : IsRising left_rank parts.left.items
   pub tariffs : IsRising tariff_rank parts.tariffs.items
   pub setup_within : Each (λ (s : Settings). IsSetupWithin (setup_of s)) parts.settings.items
   pub marks_within : Each AreMarksWithin parts.marks.items
@@ -37,15 +49,38 @@ tables_made settings marks parts = record {
   customers = parts.customers.items;
   segments = parts.segments.items;
   settled = parts.settled.items;
+  tallies = parts.tallies.items;
+  statements = parts.statements.items;
+  audit = first_of parts.audit_plans.items;
+  recheck = first_of parts.recheck_plans.items;
+  repair = first_of parts.repair_plans.items;
+  containments = parts.containments.items;
   kept = parts.kept.items;
+  exit = first_of parts.exit_plans.items;
+  left = parts.left.items;
   tariffs = parts.tariffs.items;
   stopped = false;
 }
 
+-- records of kinds that no call makes yet, of which there is to be none: those whose rules come before that of kept requests
+abbrev pub broken_before_kept : Parts0 → List (Option Broken)
+broken_before_kept parts =
+    broken_tallies parts.tallies.items
+    ∷ broken_statements parts.statements.items
+    ∷ broken_plan rules.PLANS kinds.AUDIT_PLAN (first_of parts.audit_plans.items)
+    ∷ broken_plan rules.PLANS kinds.RECHECK_PLAN (first_of parts.recheck_plans.items)
+    ∷ broken_plan rules.PLANS kinds.REPAIR_PLAN (first_of parts.repair_plans.items)
+    ∷ broken_containments parts.containments.items
+    ∷ []
+
+-- and those whose rules come behind it
+abbrev pub broken_behind_kept : Parts0 → List (Option Broken)
+broken_behind_kept parts = broken_plan rules.EXIT_PLAN kinds.EXIT_PLAN (first_of parts.exit_plans.items) ∷ broken_left parts.left.items ∷ []
+
 -- the least rule that the records break: settings and marks are there, and the tables keep their rules
 abbrev pub first_broken_with : List Settings → List Marks → Parts0 → Option Broken
-first_broken_with [] marks parts = Some (broken 1 1 [])
-first_broken_with (settings ∷ _) [] parts = Some (broken 1 2 [])
+first_broken_with [] marks parts = Some (broken rules.MARKS kinds.SETTINGS [])
+first_broken_with (settings ∷ _) [] parts = Some (broken rules.MARKS kinds.MARKS [])
 first_broken_with (settings ∷ _) (marks ∷ _) parts = first_broken (tables_made settings marks parts)
 
 abbrev pub first_broken_of : Parts0 → Option Broken

@@ -1,8 +1,6 @@
 -- What a prepared step holds.
-use Rattle.std.specs.Prelude.{◌≡◌, ℕ, Option, None, Some}
-use Rattle.sat_base.specs.declared.requests.Kept.{Kept}
-use Rattle.sat_base.specs.declared.requests.Asked.{Asked}
-use Rattle.machine_step.specs.Outcome.{Outcome, numbered}
+use Rattle.std.specs.Prelude.{◌≡◌, Option, None, Some}
+use Rattle.machine_step.specs.Outcome.{Outcome}
 use Rattle.sat_machine.specs.declared.prepared.Prepared.{Prepared}
 
 -- it holds the outcome's reply and changes
@@ -10,7 +8,7 @@ pub record Holds (p : Prepared) (o : Outcome) : Type 0 where
   pub reply : p.reply ≡ o.reply
   pub changes : p.changes.items ≡ o.changes
 
--- the answer of a numbered request that doesn't go on, or none where it does
-abbrev pub Answers : Option Kept → ℕ → Asked → Option Prepared → Type 0
-Answers last number asked None = (o : Outcome) → numbered last number asked o ≡ o
-Answers last number asked (Some p) = (o : Outcome) → Holds p (numbered last number asked o)
+-- what stands before an outcome answers already, or lets it through where there is no answer
+abbrev pub Answers : (Outcome → Outcome) → Option Prepared → Type 0
+Answers before None = (o : Outcome) → before o ≡ o
+Answers before (Some p) = (o : Outcome) → Holds p (before o)

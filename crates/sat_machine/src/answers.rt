@@ -1,13 +1,13 @@
-// Numbered requests that come again, or too late.
+// The answers to numbered requests that come again, come too late, or come of nobody who is known.
 ghost use Rattle.std.specs.Prelude.{IfOk};
-ghost use Rattle.machine_step.specs.Outcome.{repeated};
-ghost use Rattle.machine_step.specs.Tables.{kept_at};
+ghost use Rattle.machine_step.specs.Outcome.{repeated, of_caller, of_customer};
 ghost use Rattle.sat_machine.specs.Prepared.{Holds, Answers};
+ghost use Rattle.sat_machine.specs.Store.{tables_of};
 
 use crate::prepared::{Prepared, refused, unchanged};
 use crate::store::Store;
-use machine_calls::{Refusal, Reply};
-use sat_base::{Asked, CustomerId, Kept, NoMemory};
+use machine_calls::{Asking, Refusal, Reply};
+use sat_base::{Asked, Kept, NoMemory};
 use std::alloc::Global;
 
 // A request with the number of the kept one: a repeat of it, or another request.
@@ -23,24 +23,39 @@ fn repeated(alloc: Global, kept: &Kept, asked: &Asked) -> Result<Prepared, NoMem
 }
 
 // The answer to a numbered request that doesn't go on. None where it does.
-pub(crate) fn kept_answer(
+pub(crate) fn caller_answer(
     alloc: Global,
     store: &Store,
-    caller: CustomerId,
-    number: u64,
+    asking: &Asking,
     asked: &Asked,
 ) -> Result<Option<Prepared>, NoMemory>
-    ensures { IfOk result (λ answer. Answers (kept_at store.now.kept.rows caller.0) number asked.now answer) }
+    ensures { IfOk result (Answers (of_caller (tables_of store.now) asking.now asked.now)) }
 {
-    let Some(kept) = store.kept.get(u128::from(caller.0)) else {
+    let Some(kept) = store.kept.get(u128::from(asking.caller.0)) else {
         return Ok(None);
     };
-    if number < kept.number {
+    if asking.number < kept.number {
         let last = kept.number;
         return Ok(Some(refused(alloc, Refusal::RequestOld { last })));
     }
-    if number > kept.number {
+    if asking.number > kept.number {
         return Ok(None);
     }
     Ok(Some(repeated(alloc, kept, asked)?))
+}
+
+// The same of a request that only a customer makes.
+pub(crate) fn customer_answer(
+    alloc: Global,
+    store: &Store,
+    asking: &Asking,
+    asked: &Asked,
+) -> Result<Option<Prepared>, NoMemory>
+    ensures { IfOk result (Answers (of_customer (tables_of store.now) asking.now asked.now)) }
+{
+    if store.customers.get(u128::from(asking.caller.0)).is_none() {
+        let customer = asking.caller;
+        return Ok(Some(refused(alloc, Refusal::NoCustomer { customer })));
+    }
+    caller_answer(alloc, store, asking, asked)
 }

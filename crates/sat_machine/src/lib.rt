@@ -1,19 +1,29 @@
-//! The machine of a satellite: the tables of its records, and the one step that each call is. A step is prepared,
-//! which leaves the tables, and then finished or forgotten, which takes no memory.
+//! The machine of a satellite as it is kept: the tables of its records, and the one step that each call is. A step is
+//! prepared, which leaves the tables, and then finished or forgotten, which takes no memory.
+//!
+//! - [`Core::new`] makes a machine exactly of records that keep every rule, and its tables are those records.
+//!   Otherwise it names the least rule that is broken, with the first record that breaks it. A record of a kind that
+//!   no call makes yet breaks its rule.
+//! - [`Core::prepare`] gives the reply and the changes of the call's step, and leaves the tables. Between it and the
+//!   end the changes can be written elsewhere.
+//! - [`Core::finish`] makes the step's tables, [`Core::forget`] leaves them.
+//! - The tables of every machine at every moment keep every rule ([`Core::marks`]).
+//!
+//! Contracts see the tables, and the call whose step is prepared. A call has one function in `src/calls`, which tests
+//! its refusals from top to bottom.
+//!
+//! Not promised: that memory is found, or that a step is written anywhere. The records that [`Core::new`] is given
+//! have to be in order and within bounds.
 #![tactic(auto)]
 
-mod adding;
+mod absent;
 mod answers;
-mod begin;
-mod commit;
-mod delete;
-mod get;
+mod calls;
 mod machine;
 mod making;
 mod opening;
 mod places;
 mod prepared;
-mod serving;
 mod store;
 
 pub use machine::Core;

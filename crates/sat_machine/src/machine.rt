@@ -1,27 +1,25 @@
 // The machine: a step is prepared, and then finished or forgotten.
 ghost use Rattle.std.specs.Prelude.{◌≡◌, max, None, Some, IfOk, OnOk, OnErr, IfSome, IsSomeAnd};
 ghost use Rattle.machine_step.specs.Bounds.{IsValid};
-ghost use Rattle.machine_step.specs.Step.{risen, case_of, step, after, HasItsWords, IsTimely};
+ghost use Rattle.machine_step.specs.Step.{risen, asking, case_of, step, after, HasItsWords, IsWellFormed};
 ghost use Rattle.machine_step.specs.Tables.{setup_of};
 ghost use Rattle.sat_machine.specs.Opening.{AreParts, Tests, first_broken_of, AreTablesOf};
 ghost use Rattle.sat_machine.specs.Prepared.{Holds};
 ghost use Rattle.sat_machine.specs.Store.{tables_of, GoesBySettings};
 
-use crate::adding::{add_customer, add_node};
-use crate::begin::begin;
-use crate::commit::commit;
-use crate::delete::delete;
-use crate::get::get;
+use crate::calls::{add_customer, add_node, begin, commit, delete, get, set_free, settle};
 use crate::making::store_of;
 use crate::opening::{CoreErr, rule_err};
 use crate::prepared::{Prepared, refused, unchanged};
-use crate::serving::{set_free, settle};
 use crate::store::{Store, place_all, release_all, take_step};
-use machine_calls::{Call, Parts0, Refusal, Reply};
-use sat_base::{Marks, Moment, NoMemory, Settings};
+use machine_calls::{Asking, Call, Parts0, Refusal, Reply, rules};
+use sat_base::{CustomerId, Marks, Moment, NoMemory, Settings, kinds};
 use std::alloc::Global;
 use std::marker::Model;
 use std::snapshot::Snapshot;
+
+// The caller of what the operator asks.
+const OPERATOR: CustomerId = CustomerId(0);
 
 /// The machine. Contracts see its tables, and the call whose step is prepared and neither finished nor forgotten, if
 /// there is one. Its tables keep every rule at every moment.
@@ -56,6 +54,17 @@ fn risen(store: &Store, now: Moment) -> Moment
     }
 }
 
+// Who asks, under which number, at the moment of the call.
+fn asking(store: &Store, caller: CustomerId, number: u64, now: Moment) -> Asking
+    ensures { result ≡ asking (tables_of store.now) caller number now }
+{
+    Asking {
+        caller,
+        number,
+        time: risen(store, now),
+    }
+}
+
 // What comes of a call where the machine wasn't stopped.
 fn case_of(alloc: Global, store: &Store, call: &Call) -> Result<Prepared, NoMemory>
     requires valid { IsValid (tables_of store.now) }
@@ -70,17 +79,12 @@ fn case_of(alloc: Global, store: &Store, call: &Call) -> Result<Prepared, NoMemo
             addr,
             port,
             free,
-        } => add_node(
-            alloc,
-            store,
-            risen(store, *now),
-            *request,
-            *addr,
-            *port,
-            *free,
-        ),
+        } => {
+            let asking = asking(store, OPERATOR, *request, *now);
+            add_node(alloc, store, &asking, *addr, *port, *free)
+        }
         Call::AddCustomer { now, request } => {
-            add_customer(alloc, store, risen(store, *now), *request)
+            add_customer(alloc, store, &asking(store, OPERATOR, *request, *now))
         }
         Call::Begin {
             now,
@@ -88,30 +92,20 @@ fn case_of(alloc: Global, store: &Store, call: &Call) -> Result<Prepared, NoMemo
             request,
             len,
             words,
-        } => begin(
-            alloc,
-            store,
-            risen(store, *now),
-            *customer,
-            *request,
-            *len,
-            words.as_slice(),
-        ),
+        } => {
+            let asking = asking(store, *customer, *request, *now);
+            begin(alloc, store, &asking, *len, words.as_slice())
+        }
         Call::Commit {
             now,
             customer,
             request,
             segment,
             indexes,
-        } => commit(
-            alloc,
-            store,
-            risen(store, *now),
-            *customer,
-            *request,
-            *segment,
-            indexes,
-        ),
+        } => {
+            let asking = asking(store, *customer, *request, *now);
+            commit(alloc, store, &asking, *segment, indexes)
+        }
         Call::Get {
             now,
             customer,
@@ -120,9 +114,7 @@ fn case_of(alloc: Global, store: &Store, call: &Call) -> Result<Prepared, NoMemo
         } => get(
             alloc,
             store,
-            risen(store, *now),
-            *customer,
-            *request,
+            &asking(store, *customer, *request, *now),
             *segment,
         ),
         Call::Delete {
@@ -133,9 +125,7 @@ fn case_of(alloc: Global, store: &Store, call: &Call) -> Result<Prepared, NoMemo
         } => delete(
             alloc,
             store,
-            risen(store, *now),
-            *customer,
-            *request,
+            &asking(store, *customer, *request, *now),
             *segment,
         ),
         Call::Settle { now, node, bytes } => {
@@ -152,31 +142,13 @@ fn case_of(alloc: Global, store: &Store, call: &Call) -> Result<Prepared, NoMemo
 fn step(alloc: Global, store: &Store, call: &Call) -> Result<Prepared, NoMemory>
     requires valid { IsValid (tables_of store.now) }
     requires own { GoesBySettings store.now }
-    requires words { HasItsWords call.now }
+    requires formed { IsWellFormed (tables_of store.now) call.now }
     ensures { IfOk result (λ p. Holds p (step (tables_of store.now) call.now)) }
 {
     if store.stopped {
         return Ok(refused(alloc, Refusal::Stopped));
     }
     case_of(alloc, store, call)
-}
-
-// The moment of a call is below 2^36, as each moment is.
-fn see_moment(call: &Call)
-    ensures { IsTimely call.now }
-{
-    let now = match call {
-        Call::AddNode { now, .. } => now,
-        Call::AddCustomer { now, .. } => now,
-        Call::Begin { now, .. } => now,
-        Call::Commit { now, .. } => now,
-        Call::Get { now, .. } => now,
-        Call::Delete { now, .. } => now,
-        Call::Settle { now, .. } => now,
-        Call::SetFree { now, .. } => now,
-        Call::Stop => return,
-    };
-    let _seconds = now.seconds();
 }
 
 impl Core {
@@ -190,10 +162,10 @@ impl Core {
     {
         let mut parts = parts;
         let Some(settings) = parts.settings.pop() else {
-            return Err(rule_err(alloc, 1, 1, &[]));
+            return Err(rule_err(alloc, rules::MARKS, kinds::SETTINGS, &[]));
         };
         let Some(marks) = parts.marks.pop() else {
-            return Err(rule_err(alloc, 1, 2, &[]));
+            return Err(rule_err(alloc, rules::MARKS, kinds::MARKS, &[]));
         };
         let store = store_of(alloc, settings, marks, parts)?;
         Ok(Core {
@@ -204,16 +176,15 @@ impl Core {
     }
 
     /// Works out the reply and the changes of a call's step, and makes all the room that finishing it takes. The
-    /// tables don't show it. A `Begin` has 128 words.
+    /// tables don't show it. A call is well formed if its moment is one, and a `Begin` has 128 words.
     pub fn prepare(&mut self, call: &Call) -> Result<Prepared, NoMemory>
         requires free { self.old.pending ≡ None }
-        requires words { HasItsWords call.now }
+        requires formed { IsWellFormed self.old.tables call.now }
         ensures tables { self.new.tables ≡ self.old.tables }
         ensures holds { IfOk result (λ p. Holds p (step self.old.tables call.now)) }
         ensures pending { OnOk result (self.new.pending ≡ Some call.now) }
         ensures err { OnErr result (self.new.pending ≡ None) }
     {
-        see_moment(call);
         let prepared = step(self.alloc, &self.store, call)?;
         if place_all(&mut self.store, &prepared.changes).is_err() {
             release_all(&mut self.store, &prepared.changes);

@@ -1,19 +1,18 @@
 // A machine is made of records.
-ghost use Rattle.std.specs.Prelude.{◌≡◌, ◌≤◌, None, length, IfOk};
-ghost use Rattle.std.specs.Int.{w32, w64, to_be_bytes};
-ghost use Rattle.std.specs.Option.{option_map};
-ghost use Rattle.ordered_rows.specs.Rows.{IsRising};
+ghost use Rattle.std.specs.Prelude.{◌≡◌, ◌≤◌, [], length, IfOk};
+ghost use Rattle.rows.specs.Rows.{IsRising};
 ghost use Rattle.node_registry.specs.Registry.{IsNumbered};
 ghost use Rattle.settlement.specs.Rows.{key};
 ghost use Rattle.machine_step.specs.Tables.{setup_of};
-ghost use Rattle.machine_step.specs.Rules.{broken, broken_marks, first_bad, breaks_node, breaks_customer, breaks_segment, breaks_settled, settled_id, breaks_kept, bad_tariff};
+ghost use Rattle.machine_step.specs.Rules.{broken, broken_marks, broken_nodes, broken_customers, broken_segments, broken_settled, broken_kept, broken_tariffs, settled_id};
 ghost use Rattle.sat_machine.specs.Opening.{Names, Tests};
 
+use machine_calls::rules;
 use node_registry::{Node, NodeTable};
-use sat_base::{Bytes, Customer, Items, Kept, Marks, Month, NoMemory, Settings, Tariff};
+use rows::SlottedRows;
+use sat_base::{Bytes, Customer, Items, Kept, Marks, Month, NoMemory, Settings, Tariff, kinds};
 use segment_core::Segment;
 use settlement::{Settled, SettledRow};
-use slotted_rows::SlottedRows;
 use std::alloc::Global;
 use table_rules::{
     are_sound_marks, bad_customer, bad_kept, bad_node, bad_segment, bad_settled, bad_tariff,
@@ -59,7 +58,7 @@ pub(crate) fn test_marks(alloc: Global, settings: &Settings, marks: &Marks) -> R
     if are_sound_marks(settings, marks) {
         Ok(())
     } else {
-        Err(rule_err(alloc, 1, 2, &[]))
+        Err(rule_err(alloc, rules::MARKS, kinds::MARKS, &[]))
     }
 }
 
@@ -69,11 +68,10 @@ pub(crate) fn test_nodes(
     marks: &Marks,
     nodes: &[Node],
 ) -> Result<(), CoreErr>
-    ensures { Tests result (option_map (λ node. broken 2 3 (to_be_bytes w32 node.id.0))
-        (first_bad (breaks_node (setup_of settings.now) marks.now) 0 nodes.now)) }
+    ensures { Tests result (broken_nodes (setup_of settings.now) marks.now nodes.now) }
 {
     match bad_node(settings, marks, nodes) {
-        Some(node) => Err(rule_err(alloc, 2, 3, &node.id.0.to_be_bytes())),
+        Some(node) => Err(rule_err(alloc, rules::NODES, kinds::NODE, &node.id.0.to_be_bytes())),
         None => Ok(()),
     }
 }
@@ -84,11 +82,15 @@ pub(crate) fn test_customers(
     marks: &Marks,
     customers: &[Customer],
 ) -> Result<(), CoreErr>
-    ensures { Tests result (option_map (λ customer. broken 3 4 (to_be_bytes w32 customer.id.0))
-        (first_bad (breaks_customer (setup_of settings.now) marks.now) 0 customers.now)) }
+    ensures { Tests result (broken_customers (setup_of settings.now) marks.now customers.now) }
 {
     match bad_customer(settings, marks, customers) {
-        Some(customer) => Err(rule_err(alloc, 3, 4, &customer.id.0.to_be_bytes())),
+        Some(customer) => Err(rule_err(
+            alloc,
+            rules::CUSTOMERS,
+            kinds::CUSTOMER,
+            &customer.id.0.to_be_bytes(),
+        )),
         None => Ok(()),
     }
 }
@@ -101,11 +103,15 @@ pub(crate) fn test_segments(
     customers: &SlottedRows<Customer>,
     segments: &[Segment],
 ) -> Result<(), CoreErr>
-    ensures { Tests result (option_map (λ segment. broken 4 5 (to_be_bytes w64 segment.id.0))
-        (first_bad (breaks_segment (setup_of settings.now) marks.now nodes.now.nodes customers.now.rows) 0 segments.now)) }
+    ensures { Tests result (broken_segments (setup_of settings.now) marks.now nodes.now.nodes customers.now.rows segments.now) }
 {
     match bad_segment(settings, marks, nodes, customers, segments) {
-        Some(segment) => Err(rule_err(alloc, 4, 5, &segment.id.0.to_be_bytes())),
+        Some(segment) => Err(rule_err(
+            alloc,
+            rules::SEGMENTS,
+            kinds::SEGMENT,
+            &segment.id.0.to_be_bytes(),
+        )),
         None => Ok(()),
     }
 }
@@ -126,11 +132,10 @@ pub(crate) fn test_settled(
     nodes: &NodeTable,
     rows: &[SettledRow],
 ) -> Result<(), CoreErr>
-    ensures { Tests result (option_map (λ row. broken 5 6 (settled_id row))
-        (first_bad (breaks_settled (setup_of settings.now) marks.now nodes.now.nodes) 0 rows.now)) }
+    ensures { Tests result (broken_settled (setup_of settings.now) marks.now nodes.now.nodes rows.now) }
 {
     match bad_settled(settings, marks, nodes, rows) {
-        Some(row) => Err(rule_err(alloc, 5, 6, &settled_id(row))),
+        Some(row) => Err(rule_err(alloc, rules::SETTLED, kinds::SETTLED_ROW, &settled_id(row))),
         None => Ok(()),
     }
 }
@@ -142,20 +147,24 @@ pub(crate) fn test_kept(
     customers: &SlottedRows<Customer>,
     rows: &[Kept],
 ) -> Result<(), CoreErr>
-    ensures { Tests result (option_map (λ kept. broken 10 13 (to_be_bytes w32 kept.caller.0))
-        (first_bad (breaks_kept marks.now nodes.now.nodes customers.now.rows) 0 rows.now)) }
+    ensures { Tests result (broken_kept marks.now nodes.now.nodes customers.now.rows rows.now) }
 {
     match bad_kept(marks, nodes, customers, rows) {
-        Some(kept) => Err(rule_err(alloc, 10, 13, &kept.caller.0.to_be_bytes())),
+        Some(kept) => Err(rule_err(
+            alloc,
+            rules::KEPT,
+            kinds::KEPT,
+            &kept.caller.0.to_be_bytes(),
+        )),
         None => Ok(()),
     }
 }
 
 pub(crate) fn test_tariffs(alloc: Global, first: Month, tariffs: &[Tariff]) -> Result<(), CoreErr>
-    ensures { Tests result (option_map (λ month. broken 13 16 (to_be_bytes w32 month)) (bad_tariff first.0 tariffs.now)) }
+    ensures { Tests result (broken_tariffs first.0 tariffs.now) }
 {
     match bad_tariff(first, tariffs) {
-        Some(month) => Err(rule_err(alloc, 13, 16, &month.to_be_bytes())),
+        Some(month) => Err(rule_err(alloc, rules::TARIFFS, kinds::TARIFF, &month.to_be_bytes())),
         None => Ok(()),
     }
 }
@@ -164,7 +173,8 @@ pub(crate) fn test_tariffs(alloc: Global, first: Month, tariffs: &[Tariff]) -> R
 pub(crate) fn node_table(alloc: Global, nodes: Vec<Node>) -> Result<NodeTable, NoMemory>
     requires numbered { IsNumbered nodes.items }
     requires within { length nodes.items ≤ 65536 }
-    ensures { IfOk result (λ table. table.nodes ≡ nodes.items) }
+    ensures nodes { IfOk result (λ table. table.nodes ≡ nodes.items) }
+    ensures contained { IfOk result (λ table. table.contained ≡ []) }
 {
     let mut table = NodeTable::new(alloc);
     for node in nodes {

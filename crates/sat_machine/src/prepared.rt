@@ -1,11 +1,15 @@
 // What a prepared step holds, and the common ends of steps.
 ghost use Rattle.std.specs.Prelude.{◌≡◌, ◌∷◌, [], IfOk, option_to_list};
+ghost use Rattle.machine_calls.specs.declared.refusal.Refusal.TheVariants as refusals;
 ghost use Rattle.machine_step.specs.Outcome.{unchanged, refused, accepted, done_with};
 ghost use Rattle.sat_machine.specs.Prepared.{Holds};
 
-use machine_calls::{RecChange, Refusal, Reply};
-use sat_base::{Asked, CustomerId, Done, Kept, Marks, NoMemory};
+use machine_calls::{Asking, RecChange, Refusal, Reply, TableName};
+use sat_base::{Asked, Done, Kept, Marks, NoMemory};
 use std::alloc::Global;
+
+// From this number on no segment, serial or plan is numbered.
+pub(crate) const LAST_NUMBER: u64 = 1 << 63;
 
 /// The reply of a step, and the records that it changes, in order.
 #[derive(Drop)]
@@ -31,7 +35,14 @@ pub(crate) fn refused(alloc: Global, cause: Refusal) -> Prepared
     unchanged(alloc, Reply::Refused(cause))
 }
 
-// One record is put, and the marks with it.
+// A table has no room for what the call would add.
+pub(crate) fn table_full(alloc: Global, table: TableName) -> Prepared
+    ensures { Holds result (refused (refusals.TableFull table)) }
+{
+    refused(alloc, Refusal::TableFull { table })
+}
+
+// The marks are put, and one record.
 pub(crate) fn accepted(
     alloc: Global,
     marks: Marks,
@@ -41,26 +52,25 @@ pub(crate) fn accepted(
     ensures { IfOk result (λ p. Holds p (accepted marks (put ∷ []) reply)) }
 {
     let mut changes = Vec::new(alloc);
-    changes.push(put)?;
     changes.push(RecChange::Marks(marks))?;
+    changes.push(put)?;
     Ok(Prepared { reply, changes })
 }
 
-// A numbered request is accepted: what it puts, the request as it is kept, and the marks.
+// A numbered request is accepted: the marks, what it puts, and the request as it is kept.
 pub(crate) fn done_with(
     alloc: Global,
     marks: Marks,
     put: Option<RecChange>,
-    caller: CustomerId,
-    number: u64,
+    asking: &Asking,
     asked: Asked,
     done: Done,
 ) -> Result<Prepared, NoMemory>
-    ensures { IfOk result (λ p. Holds p (done_with marks (option_to_list put) caller number asked done)) }
+    ensures { IfOk result (λ p. Holds p (done_with marks (option_to_list put) asking.now asked done)) }
 {
     let kept = RecChange::Kept(Kept {
-        caller,
-        number,
+        caller: asking.caller,
+        number: asking.number,
         asked,
         done: done.copy(alloc)?,
     });
@@ -68,9 +78,9 @@ pub(crate) fn done_with(
     match put {
         Some(put) => {
             let mut changes = Vec::new(alloc);
+            changes.push(RecChange::Marks(marks))?;
             changes.push(put)?;
             changes.push(kept)?;
-            changes.push(RecChange::Marks(marks))?;
             Ok(Prepared { reply, changes })
         }
         None => accepted(alloc, marks, kept, reply),

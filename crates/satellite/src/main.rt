@@ -1,4 +1,8 @@
 //! The satellite's program: its words, its devices, and the top call over both.
+//!
+//! `main` hands the words and a real console to `satellite_cli::satellite`, and its status to the system. Words that
+//! are no text are read as none, which is no command either. What the commands do is `satellite_cli`'s contract. Of
+//! `main` itself nothing is proved but that it is safe; the gate runs it on examples.
 #![tactic(auto)]
 
 use sat_base::{Line, NoMemory};

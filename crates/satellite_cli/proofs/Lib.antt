@@ -1,4 +1,3 @@
-pub mod Streams
 pub mod Cut
 pub mod Words
 pub mod Bounds

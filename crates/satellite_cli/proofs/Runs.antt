@@ -1,18 +1,29 @@
 -- The exits of a run of a command that answers its input.
-use Rattle.std.proofs.Common.{◌≡◌, ◌≤◌, ◌⊎◌, ℕ, List, Option, [], ◌++◌, length, take, refl, ap, sym, subst, ◌∙◌, arith, inl, inr, Some, None, Result, Ok, Err}
+use Rattle.std.proofs.Common.{length-take, ◌≡◌, ◌≤◌, ◌⊎◌, ℕ, List, Option, [], ◌++◌, length, take, refl, ap, sym, subst, ◌∙◌, arith, inl, inr, Some, None, Result, Ok, Err, Bool, slice_range}
 use Rattle.std.specs.Prelude.{MatchResult}
 use Rattle.std.proofs.lemmas.List.{length-append, append-nil, take_all}
-use Rattle.sat_base.specs.Outside.{with_front, with_end, Rose}
+use Rattle.sat_base.specs.Outside.{About, KeepsInput, with_front, with_end, Rose}
+use Rattle.std.proofs.lemmas.Slice.{between_from_start}
+use Rattle.sat_base.specs.Streams.{Took}
 use Rattle.sat_base.specs.declared.items.Share.{Share}
 use Rattle.satellite_cli.specs.Judge.{Judges, RefusesLine, shares_of}
-use Rattle.satellite_cli.specs.Run.{Seen, Ran, Says, Answers, IsLine, IsAnswer, fault_line}
+use Rattle.satellite_cli.specs.Run.{Ran, Says, Answers, IsLine, IsAnswer, fault_line, input_room, max_input}
 
 -- what reading the input did
-pub record Read (old mid : Seen) (input : List ℕ) : Type 0 where
-  pub at_most : length input ≤ 1048577
+pub record Read (old mid : About) (input : List ℕ) : Type 0 where
+  pub at_most : length input ≤ input_room
   pub took : old.left ≡ with_front input mid.left
   pub written : mid.written ≡ old.written
   pub write_faults : mid.write_faults ≡ old.write_faults
+
+-- what filling a buffer did
+pub read_front : (May : List ℕ → ℕ → Type 0) (buf : List ℕ) (len idle : ℕ) (failed : Bool) (old mid : About) → length buf ≡ input_room → Took May (slice_range buf 0 len) idle failed old mid → Read old mid (take len buf)
+read_front May buf len idle failed old mid size t = record {
+  at_most = omega (arith, length-take len buf);
+  took = rw (← between_from_start buf len) t.left;
+  written = t.output.written;
+  write_faults = t.output.write_faults;
+}
 
 -- a fault that ends a run before its answers
 abbrev pub IsEarly : ℕ → Type 0
@@ -40,7 +51,7 @@ module _ (IsText IsRefusal : List ℕ → List ℕ → Type 0) where
 
   -- ---- answering
 
-  pub answers_fault : (input : List ℕ) (old new : Seen) (status : ℕ) → status ≡ 9 → Says (fault_line 9) old new → Answers IsText IsRefusal input old new status
+  pub answers_fault : (input : List ℕ) (old new : About) (status : ℕ) → status ≡ 9 → Says (fault_line 9) old new → Answers IsText IsRefusal input old new status
   answers_fault input old new status nine says =
       let of : IsLine IsRefusal input status (fault_line 9) = own_line input status 9 nine (λ e. cc) in
       record {
@@ -48,11 +59,11 @@ module _ (IsText IsRefusal : List ℕ → List ℕ → Type 0) where
         front = record { text = []; line = fault_line 9; n = 0; m = says.front.0; of_text = inl refl; of_line = of; written = says.front.1 };
         said = λ z. record { line = fault_line 9; of_line = of; whole = says.whole };
         write_fault = λ five. absurd (omega arith);
-        same = (says.left, says.read_faults);
+        same = says.input;
         which = inr (inr (inr nine));
       }
 
-  pub answers_refused : (input refusal line : List ℕ) (old new : Seen) → IsRefusal input refusal → line ≡ refusal → Says line old new → Answers IsText IsRefusal input old new 8
+  pub answers_refused : (input refusal line : List ℕ) (old new : About) → IsRefusal input refusal → line ≡ refusal → Says line old new → Answers IsText IsRefusal input old new 8
   answers_refused input refusal line old new refuses is says =
       let of : IsLine IsRefusal input 8 line = (λ e. subst (IsRefusal input) (sym is) refuses, λ ne. absurd (ne refl)) in
       record {
@@ -60,12 +71,12 @@ module _ (IsText IsRefusal : List ℕ → List ℕ → Type 0) where
         front = record { text = []; line = line; n = 0; m = says.front.0; of_text = inl refl; of_line = of; written = says.front.1 };
         said = λ z. record { line = line; of_line = of; whole = says.whole };
         write_fault = λ five. absurd (omega arith);
-        same = (says.left, says.read_faults);
+        same = says.input;
         which = inr (inr (inl refl));
       }
 
-  pub answers_whole : (input answers text : List ℕ) (old new : Seen) → IsText input answers → text ≡ answers → new.written ≡ with_end old.written text → new.left ≡ old.left → new.read_faults ≡ old.read_faults → Answers IsText IsRefusal input old new 0
-  answers_whole input answers text old new of same wrote left faults = let is : IsText input text = subst (IsText input) (sym same) of in record {
+  pub answers_whole : (input answers text : List ℕ) (old new : About) → IsText input answers → text ≡ answers → new.written ≡ with_end old.written text → KeepsInput old new → Answers IsText IsRefusal input old new 0
+  answers_whole input answers text old new of same wrote input_kept = let is : IsText input text = subst (IsText input) (sym same) of in record {
     whole = λ z. (text, is, wrote);
     front = record {
       text = text;
@@ -78,12 +89,12 @@ module _ (IsText IsRefusal : List ℕ → List ℕ → Type 0) where
     };
     said = λ ne. absurd (ne refl);
     write_fault = λ five. absurd (omega arith);
-    same = (left, faults);
+    same = input_kept;
     which = inl refl;
   }
 
-  pub answers_cut : (input answers text : List ℕ) (old new : Seen) (n : ℕ) → IsText input answers → text ≡ answers → new.written ≡ with_end old.written (take n text) → Rose old.write_faults new.write_faults → new.left ≡ old.left → new.read_faults ≡ old.read_faults → Answers IsText IsRefusal input old new 5
-  answers_cut input answers text old new n of_answers same wrote rose left faults =
+  pub answers_cut : (input answers text : List ℕ) (old new : About) (n : ℕ) → IsText input answers → text ≡ answers → new.written ≡ with_end old.written (take n text) → Rose old.write_faults new.write_faults → KeepsInput old new → Answers IsText IsRefusal input old new 5
+  answers_cut input answers text old new n of_answers same wrote rose input_kept =
       let is : IsText input text = subst (IsText input) (sym same) of_answers in
       let of : IsLine IsRefusal input 5 [] = own_line input 5 5 refl (λ e. cc) in
       record {
@@ -91,14 +102,14 @@ module _ (IsText IsRefusal : List ℕ → List ℕ → Type 0) where
         front = record { text = text; line = []; n = n; m = 0; of_text = inr is; of_line = of; written = wrote ∙ ap (with_end old.written) (sym (append-nil (take n text))) };
         said = λ z. record { line = []; of_line = of; whole = inr rose };
         write_fault = λ five. rose;
-        same = (left, faults);
+        same = input_kept;
         which = inr (inl refl);
       }
 
   -- ---- reading
 
-  pub fault_ran : (old mid new : Seen) (input : List ℕ) (status s : ℕ) → Read old mid input → status ≡ s → IsEarly s → Says (fault_line s) mid new
-      → (s ≡ 11 → Rose old.read_faults mid.read_faults) → (s ≡ 12 → length input ≡ 1048577) → Ran IsText IsRefusal old new status
+  pub fault_ran : (old mid new : About) (input : List ℕ) (status s : ℕ) → Read old mid input → status ≡ s → IsEarly s → Says (fault_line s) mid new
+      → (s ≡ 11 → Rose old.read_faults mid.read_faults) → (s ≡ 12 → length input ≡ input_room) → Ran IsText IsRefusal old new status
   fault_ran old mid new input status s read is which says failed long =
       let bounds = early_bounds s which in
       let late : 9 ≤ status = omega arith in
@@ -106,19 +117,19 @@ module _ (IsText IsRefusal : List ℕ → List ℕ → Type 0) where
       record {
         input = input;
         at_most = read.at_most;
-        took = rw says.left read.took;
+        took = rw says.input.left read.took;
         nothing_left = λ answer. absurd (no_answer status late answer);
         short = λ answer. absurd (no_answer status late answer);
         answered = λ z. absurd (omega arith);
         front = record { text = []; line = fault_line s; n = 0; m = says.front.0; of_text = inl refl; of_line = of; written = rw (← read.written) says.front.1 };
         said = λ z. record { line = fault_line s; of_line = of; whole = rw (← read.written, ← read.write_faults) says.whole };
         write_fault = λ five. absurd (omega arith);
-        read_fault = λ e. rw says.read_faults (failed (sym is ∙ e));
+        read_fault = λ e. rw says.input.read_faults (failed (sym is ∙ e));
         long = λ e. long (sym is ∙ e);
         which = early_which status s is which;
       }
 
-  pub whole_ran : (old mid new : Seen) (input : List ℕ) (status : ℕ) → Read old mid input → length input ≤ 1048576 → ((l : List ℕ) → mid.left ≡ Some l → l ≡ []) → Answers IsText IsRefusal input mid new status → Ran IsText IsRefusal old new status
+  pub whole_ran : (old mid new : About) (input : List ℕ) (status : ℕ) → Read old mid input → length input ≤ max_input → ((l : List ℕ) → mid.left ≡ Some l → l ≡ []) → Answers IsText IsRefusal input mid new status → Ran IsText IsRefusal old new status
   whole_ran old mid new input status read short none a =
       let bounds : (status ≤ 9) × (status ≡ 11 → ⊥) = elim a.which [
         | inl z ↦ (omega arith, λ e. omega arith)
@@ -127,8 +138,8 @@ module _ (IsText IsRefusal : List ℕ → List ℕ → Type 0) where
       record {
         input = input;
         at_most = read.at_most;
-        took = rw a.same.0 read.took;
-        nothing_left = λ answer l e. none l (sym a.same.0 ∙ e);
+        took = rw a.same.left read.took;
+        nothing_left = λ answer l e. none l (sym a.same.left ∙ e);
         short = λ answer. short;
         answered = λ z. let w = a.whole z in (w.0, w.1, rw (← read.written) w.2);
         front = record {
@@ -160,12 +171,12 @@ all_taken : (o : Option (List ℕ)) (input bytes : List ℕ) → with_front inpu
 all_taken None input bytes e none = absurd cc
 all_taken (Some rest) input bytes e none = sym (append-nil input) ∙ ap (λ r. input ++ r) (sym (none rest refl)) ∙ some_is _ _ e
 
-module _ (IsText IsRefusal : List ℕ → List ℕ → Type 0) (old new : Seen) (status : ℕ) (bytes : List ℕ) (r : Ran IsText IsRefusal old new status) (told : old.left ≡ Some bytes) where
+module _ (IsText IsRefusal : List ℕ → List ℕ → Type 0) (old new : About) (status : ℕ) (bytes : List ℕ) (r : Ran IsText IsRefusal old new status) (told : old.left ≡ Some bytes) where
   -- a run that answers its input took all of it
   input_is : IsAnswer status → r.input ≡ bytes
   input_is answer = all_taken new.left r.input bytes (sym r.took ∙ told) (r.nothing_left answer)
 
-  runs_through : length bytes ≤ 1048576 → (Rose old.read_faults new.read_faults → ⊥) → (Rose old.write_faults new.write_faults → ⊥) → (IsAnswer status) ⊎ (status ≡ 9)
+  runs_through : length bytes ≤ max_input → (Rose old.read_faults new.read_faults → ⊥) → (Rose old.write_faults new.write_faults → ⊥) → (IsAnswer status) ⊎ (status ≡ 9)
   runs_through short no_read no_write =
       elim r.which [
         | inl z ↦ inl (inl z)
@@ -187,7 +198,7 @@ module _ (IsText IsRefusal : List ℕ → List ℕ → Type 0) (old new : Seen) 
 taken_refused : (bytes : List ℕ) (shares : List Share) (number : ℕ) → shares_of bytes ≡ Ok shares → shares_of bytes ≡ Err number → ⊥
 taken_refused bytes shares number ok err = cc
 
-judged : (k size : ℕ) (old new : Seen) (status : ℕ) (bytes : List ℕ) (r : Ran (Judges k size) RefusesLine old new status) → old.left ≡ Some bytes → (IsAnswer status) ⊎ (status ≡ 9)
+judged : (k size : ℕ) (old new : About) (status : ℕ) (bytes : List ℕ) (r : Ran (Judges k size) RefusesLine old new status) → old.left ≡ Some bytes → (IsAnswer status) ⊎ (status ≡ 9)
     → (x : Result (List Share) ℕ) → shares_of bytes ≡ x → MatchResult x (λ shares. (status ≡ 0) ⊎ (status ≡ 9)) (λ number. (status ≡ 8) ⊎ (status ≡ 9))
 judged k size old new status bytes r told (inr nine) (Ok shares) e = inr nine
 judged k size old new status bytes r told (inr nine) (Err number) e = inr nine
@@ -203,7 +214,7 @@ judged k size old new status bytes r told (inl (inl z)) (Err number) e =
     absurd (taken_refused bytes answered.1.shares number (ap shares_of (sym same) ∙ answered.1.are) e)
 
 -- `judge` ends by what its lines are, or for want of memory
-pub judges_through : (k size : ℕ) (old new : Seen) (status : ℕ) (bytes : List ℕ) → Ran (Judges k size) RefusesLine old new status → old.left ≡ Some bytes → length bytes ≤ 1048576
+pub judges_through : (k size : ℕ) (old new : About) (status : ℕ) (bytes : List ℕ) → Ran (Judges k size) RefusesLine old new status → old.left ≡ Some bytes → length bytes ≤ max_input
     → (Rose old.read_faults new.read_faults → ⊥) → (Rose old.write_faults new.write_faults → ⊥)
     → MatchResult (shares_of bytes) (λ shares. (status ≡ 0) ⊎ (status ≡ 9)) (λ number. (status ≡ 8) ⊎ (status ≡ 9))
 judges_through k size old new status bytes r told short no_read no_write =

@@ -35,11 +35,15 @@ pub record Told : Type 0 where
   pub coming_after : Option (List ℕ)
   pub words : Option (List ℕ)
   pub words_after : Option (List ℕ)
+  -- how many draws have failed
+  pub faults : ℕ
+  pub faults_after : ℕ
 
--- no moment and no word were taken
+-- no moment and no word were taken, and no draw failed
 pub record TakesNone (told : Told) : Type 0 where
   pub moments : told.coming_after ≡ told.coming
   pub words : told.words_after ≡ told.words
+  pub faults : told.faults_after ≡ told.faults
 
 -- the clock's next moment was taken, and the next words were drawn
 pub record Takes (told : Told) (moment : ℕ) (drawn : List ℕ) : Type 0 where

@@ -1,20 +1,18 @@
 -- A run of a command that answers its input, by what the console tells and by its counts.
-use Rattle.std.specs.Prelude.{◌≡◌, ◌⊎◌, ℕ, ◌≤◌, List, [], ◌++◌, length, take, Option, Some, codes, ◌==◌, if◌then◌else◌}
-use Rattle.sat_base.specs.Outside.{with_front, with_end, Rose}
+use Rattle.std.specs.Prelude.{◌≡◌, ◌⊎◌, ℕ, ◌≤◌, List, [], ◌++◌, length, take, Some, codes, ◌==◌, if◌then◌else◌}
+use Rattle.sat_base.specs.Outside.{About, KeepsInput, with_front, with_end, Rose}
 use Rattle.satellite_cli.specs.declared.run.Outcome.{Outcome}
 use Rattle.satellite_cli.specs.declared.run.Outcome.TheVariants.{Text, Refused}
 use Rattle.satellite_cli.specs.declared.status.Status.{Status}
 use Rattle.satellite_cli.specs.declared.status.Status.TheVariants as ends
 
--- what is seen of a console
-pub record Seen : Type 0 where
-  pub left : Option (List ℕ)
-  pub written : Option (List ℕ)
-  pub read_faults : ℕ
-  pub write_faults : ℕ
+-- the most bytes of an input
+abbrev pub max_input : ℕ
+max_input = 1048576
 
-abbrev pub seen_of : {C : Type 0} → (C → Option (List ℕ)) → (C → Option (List ℕ)) → (C → ℕ) → (C → ℕ) → C → Seen
-seen_of left written read_faults write_faults c = record { left = left c; written = written c; read_faults = read_faults c; write_faults = write_faults c }
+-- and the most that are taken of one, to see that it is no longer
+abbrev pub input_room : ℕ
+input_room = 1048577
 
 -- the number of a status
 abbrev pub code_of : Status → ℕ
@@ -35,11 +33,10 @@ fault_line status =
     else (if status == 9 then codes "error: memory\n" else [])))
 
 -- a line was written, whole unless the write count rose; nothing else changed
-pub record Says (line : List ℕ) (old new : Seen) : Type 0 where
+pub record Says (line : List ℕ) (old new : About) : Type 0 where
   pub front : (m : ℕ) × (new.written ≡ with_end old.written (take m line))
   pub whole : (new.written ≡ with_end old.written line) ⊎ Rose old.write_faults new.write_faults
-  pub left : new.left ≡ old.left
-  pub read_faults : new.read_faults ≡ old.read_faults
+  pub input : KeepsInput old new
 
 -- ---- what a command makes of its input: it says of which inputs a text is the answers, or a line a refusal
 
@@ -56,7 +53,7 @@ abbrev pub IsLine : (List ℕ → List ℕ → Type 0) → List ℕ → ℕ → 
 IsLine IsRefusal input status line = (status ≡ 8 → IsRefusal input line) × ((status ≡ 8 → ⊥) → line ≡ fault_line status)
 
 -- a front of the input's text was written, then a front of the line
-pub record Fronts (IsText IsRefusal : List ℕ → List ℕ → Type 0) (input : List ℕ) (old new : Seen) (status : ℕ) : Type 0 where
+pub record Fronts (IsText IsRefusal : List ℕ → List ℕ → Type 0) (input : List ℕ) (old new : About) (status : ℕ) : Type 0 where
   pub text : List ℕ
   pub line : List ℕ
   pub n : ℕ
@@ -66,13 +63,13 @@ pub record Fronts (IsText IsRefusal : List ℕ → List ℕ → Type 0) (input :
   pub written : new.written ≡ with_end old.written (take n text ++ take m line)
 
 -- the line alone was written, and whole, unless the write count rose
-pub record LastLine (IsRefusal : List ℕ → List ℕ → Type 0) (input : List ℕ) (old new : Seen) (status : ℕ) : Type 0 where
+pub record LastLine (IsRefusal : List ℕ → List ℕ → Type 0) (input : List ℕ) (old new : About) (status : ℕ) : Type 0 where
   pub line : List ℕ
   pub of_line : IsLine IsRefusal input status line
   pub whole : (new.written ≡ with_end old.written line) ⊎ Rose old.write_faults new.write_faults
 
 -- the whole text of the input was written
-abbrev pub Whole : (List ℕ → List ℕ → Type 0) → List ℕ → Seen → Seen → Type 0
+abbrev pub Whole : (List ℕ → List ℕ → Type 0) → List ℕ → About → About → Type 0
 Whole IsText input old new = (text : List ℕ) × IsText input text × (new.written ≡ with_end old.written text)
 
 -- the command ran to its end, or refused its input
@@ -80,23 +77,23 @@ abbrev pub IsAnswer : ℕ → Type 0
 IsAnswer status = (status ≡ 0) ⊎ (status ≡ 8)
 
 -- an input was answered, or the end of the run says why not
-pub record Answers (IsText IsRefusal : List ℕ → List ℕ → Type 0) (input : List ℕ) (old new : Seen) (status : ℕ) : Type 0 where
+pub record Answers (IsText IsRefusal : List ℕ → List ℕ → Type 0) (input : List ℕ) (old new : About) (status : ℕ) : Type 0 where
   pub whole : status ≡ 0 → Whole IsText input old new
   pub front : Fronts IsText IsRefusal input old new status
   pub said : (status ≡ 0 → ⊥) → LastLine IsRefusal input old new status
   pub write_fault : status ≡ 5 → Rose old.write_faults new.write_faults
-  pub same : (new.left ≡ old.left) × (new.read_faults ≡ old.read_faults)
+  pub same : KeepsInput old new
   pub which : (status ≡ 0) ⊎ ((status ≡ 5) ⊎ ((status ≡ 8) ⊎ (status ≡ 9)))
 
 -- a run, from one sight of the console to the other
-pub record Ran (IsText IsRefusal : List ℕ → List ℕ → Type 0) (old new : Seen) (status : ℕ) : Type 0 where
+pub record Ran (IsText IsRefusal : List ℕ → List ℕ → Type 0) (old new : About) (status : ℕ) : Type 0 where
   -- what was taken of the input, where nothing is told too
   pub input : List ℕ
-  pub at_most : length input ≤ 1048577
+  pub at_most : length input ≤ input_room
   pub took : old.left ≡ with_front input new.left
   -- status 0 and 8: nothing is left of a short input
   pub nothing_left : IsAnswer status → (bytes : List ℕ) → new.left ≡ Some bytes → bytes ≡ []
-  pub short : IsAnswer status → length input ≤ 1048576
+  pub short : IsAnswer status → length input ≤ max_input
   -- status 0: the text was written
   pub answered : status ≡ 0 → Whole IsText input old new
   -- else a front of the text, then a front of the line, which is whole unless the write count rose
@@ -105,5 +102,5 @@ pub record Ran (IsText IsRefusal : List ℕ → List ℕ → Type 0) (old new : 
   -- the causes; that of 8 stands in its line, and want of memory, 9, has none
   pub write_fault : status ≡ 5 → Rose old.write_faults new.write_faults
   pub read_fault : status ≡ 11 → Rose old.read_faults new.read_faults
-  pub long : status ≡ 12 → length input ≡ 1048577
+  pub long : status ≡ 12 → length input ≡ input_room
   pub which : (status ≡ 0) ⊎ ((status ≡ 5) ⊎ ((status ≡ 8) ⊎ ((status ≡ 9) ⊎ ((status ≡ 11) ⊎ (status ≡ 12)))))

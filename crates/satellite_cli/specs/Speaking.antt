@@ -1,5 +1,6 @@
 -- What a connection is told.
-use Rattle.std.specs.Prelude.{◌≡◌, ℕ, List, ◌⊎◌, codes}
+use Rattle.std.specs.Prelude.{◌≡◌, ℕ, true, List, ◌⊎◌, codes}
+use Rattle.machine_calls.specs.Replies.{is_sayable}
 use Rattle.http_edge.specs.Answers.{message, error_data, answer_text, edge_text}
 use Rattle.http_edge.specs.declared.wish.EdgeErr.TheVariants.{NoMemory}
 use Rattle.std.specs.Prelude.{Result, Ok, Err}
@@ -19,6 +20,11 @@ Tells secret (said.Reply reply) text = (text ≡ answer_text secret reply) ⊎ (
 Tells secret (said.Edge error) text = (text ≡ edge_text error) ⊎ (text ≡ edge_text NoMemory)
 Tells secret said.Words text = text ≡ words_text
 Tells secret said.Term text = text ≡ term_text
+
+-- a reply is one that callers are told
+abbrev pub IsSayable : Said → Type 0
+IsSayable (said.Reply reply) = is_sayable reply ≡ true
+IsSayable _ = Unit {0}
 
 -- the text that is sent for an answer that takes memory
 abbrev pub IsAnswer : Result (List ℕ) NoRoom → List ℕ → Type 0

@@ -1,7 +1,9 @@
 // A connection is listened to.
 ghost use Rattle.std.specs.Prelude.{◌≡◌, ◌≤◌, ◌<◌, ℕ, List, length, not, IsTrue, false};
-ghost use Rattle.machine_step.specs.Step.{HasItsWords};
-ghost use Rattle.sat_base.specs.Outside.{with_front, Counts};
+ghost use Rattle.machine_step.specs.Step.{IsFormed};
+ghost use Rattle.sat_base.specs.Outside.{CountsExactly, with_front};
+ghost use Rattle.sat_base.specs.Streams.{Took};
+ghost use Rattle.http_edge.specs.Requests.{MayRead, max_request};
 ghost use Rattle.satellite_cli.specs.Listening.{Hears, Enters, call_of, words_wanted, failed_to_read, failed_to_draw, IfCall};
 
 use http_edge::{EdgeErr, ReadErr, Wish, read_request};
@@ -33,18 +35,18 @@ pub fn listen<N: Link, T: Clock, W: Words>(
     words: &mut W,
 ) -> Listened
     // The call is that of the wish that the bytes left say, or the error is the one that they say.
-    ensures hears { Hears keys.now (N.left link.old) (record {
+    ensures hears { Hears keys.now (N.about link.old).left (record {
       coming = T.coming clock.old;
       coming_after = T.coming clock.new;
       words = W.left words.old;
       words_after = W.left words.new;
+      faults = W.faults words.old;
+      faults_after = W.faults words.new;
     }) result }
-    ensures ready { IfCall result HasItsWords }
-    ensures took { (bytes : List ℕ) × (N.left link.old ≡ with_front bytes (N.left link.new)) × (length bytes ≤ 73728) }
-    ensures read_faults { Counts (failed_to_read result) (N.read_faults link.old) (N.read_faults link.new) }
-    ensures words_faults { Counts (failed_to_draw result) (W.faults words.old) (W.faults words.new) }
-    ensures written { N.written link.new ≡ N.written link.old }
-    ensures write_faults { N.write_faults link.new ≡ N.write_faults link.old }
+    ensures ready { IfCall result IsFormed }
+    ensures took { (bytes : List ℕ) × Took (MayRead keys.now) bytes 1 (failed_to_read result)
+        (N.about link.old) (N.about link.new) × (length bytes ≤ max_request) }
+    ensures words_faults { CountsExactly (failed_to_draw result) (W.faults words.old) (W.faults words.new) }
 {
     match read_request(alloc, link, keys) {
         Ok(wish) => enter(alloc, wish, clock, words),
@@ -60,9 +62,11 @@ fn enter<T: Clock, W: Words>(alloc: Global, wish: Wish, clock: &mut T, words: &m
       coming_after = T.coming clock.new;
       words = W.left words.old;
       words_after = W.left words.new;
+      faults = W.faults words.old;
+      faults_after = W.faults words.new;
     }) result }
     ensures read_faults { failed_to_read result ≡ false }
-    ensures words_faults { Counts (failed_to_draw result) (W.faults words.old) (W.faults words.new) }
+    ensures words_faults { CountsExactly (failed_to_draw result) (W.faults words.old) (W.faults words.new) }
 {
     let Ok(mut drawn) = vec![in alloc; 0u64; words_of(&wish)] else {
         return Listened::Edge(EdgeErr::NoMemory);
@@ -90,7 +94,7 @@ fn draw<W: Words>(words: &mut W, room: &mut [u64]) -> bool
     ensures all { IsTrue result → W.left words.old ≡ with_front room.new (W.left words.new) }
     ensures some { result ≡ false → (drawn : List ℕ) × (length drawn < length room.old) × (W.left words.old ≡ with_front drawn (W.left words.new)) }
     ensures size { length room.new ≡ length room.old }
-    ensures faults { Counts (not result) (W.faults words.old) (W.faults words.new) }
+    ensures faults { CountsExactly (not result) (W.faults words.old) (W.faults words.new) }
 {
     for i in 0..room.len() {
         match words.word() {

@@ -4,11 +4,10 @@
 // fault before the writing has written no answer, and the answers to one input don't depend on how the console
 // cuts it.
 ghost use Rattle.std.specs.Prelude.{◌≡◌, ℕ, List, IfOk, length};
-ghost use Rattle.satellite_cli.specs.Run.{Answers, IsOutcome, Ran, Says, code_of, fault_line, seen_of};
+ghost use Rattle.satellite_cli.specs.Run.{Answers, IsOutcome, Ran, Says, code_of, fault_line, input_room};
 
 use crate::status::Status;
-use crate::stream::{InputEnd, read_input, write_all};
-use sat_base::{Link, NoMemory};
+use sat_base::{Filling, Link, NoMemory, fill, write_all};
 use std::alloc::Global;
 
 // The most bytes that are taken of the input, one more than it may have.
@@ -37,9 +36,7 @@ pub(crate) trait Answering {
 
 // Says a line on the console.
 fn say<C: Link>(console: &mut C, line: &[u8])
-    ensures { Says line.now
-        (seen_of C.left C.written C.read_faults C.write_faults console.old)
-        (seen_of C.left C.written C.read_faults C.write_faults console.new) }
+    ensures { Says line.now (C.about console.old) (C.about console.new) }
 {
     write_all(console, line);
 }
@@ -47,9 +44,7 @@ fn say<C: Link>(console: &mut C, line: &[u8])
 /// Says a fault on the console, and hands its status on.
 pub(crate) fn fault<C: Link>(console: &mut C, status: Status) -> Status
     ensures status { result ≡ status }
-    ensures says { Says (fault_line (code_of status))
-        (seen_of C.left C.written C.read_faults C.write_faults console.old)
-        (seen_of C.left C.written C.read_faults C.write_faults console.new) }
+    ensures says { Says (fault_line (code_of status)) (C.about console.old) (C.about console.new) }
 {
     say(console, status.line());
     status
@@ -70,8 +65,7 @@ fn answer_read<C: Link, A: Answering>(
     input: &[u8],
 ) -> Status
     ensures { Answers (A.is_text command.now) (A.is_refusal command.now) input.now
-        (seen_of C.left C.written C.read_faults C.write_faults console.old)
-        (seen_of C.left C.written C.read_faults C.write_faults console.new) (code_of result) }
+        (C.about console.old) (C.about console.new) (code_of result) }
 {
     match command.answer(alloc, input) {
         Err(NoMemory) => fault(console, Status::NoMemory),
@@ -96,16 +90,15 @@ fn answer_into<C: Link, A: Answering>(
     command: &A,
     buf: &mut [u8],
 ) -> Status
-    requires { length buf.old ≡ 1048577 }
+    requires { length buf.old ≡ input_room }
     ensures { Ran (A.is_text command.now) (A.is_refusal command.now)
-        (seen_of C.left C.written C.read_faults C.write_faults console.old)
-        (seen_of C.left C.written C.read_faults C.write_faults console.new) (code_of result) }
+        (C.about console.old) (C.about console.new) (code_of result) }
 {
-    let reading = read_input(console, buf);
-    match reading.end {
-        InputEnd::Failed => fault(console, Status::InputFault),
-        InputEnd::Long => fault(console, Status::InputLong),
-        InputEnd::Whole => answer_read(alloc, console, command, &buf[..reading.len]),
+    let filled = fill(console, buf, 0);
+    match filled.end {
+        Filling::Failed => fault(console, Status::InputFault),
+        Filling::Full => fault(console, Status::InputLong),
+        Filling::Ended => answer_read(alloc, console, command, &buf[..filled.len]),
     }
 }
 
@@ -116,8 +109,7 @@ pub(crate) fn answer_input<C: Link, A: Answering>(
     command: &A,
 ) -> Status
     ensures { Ran (A.is_text command.now) (A.is_refusal command.now)
-        (seen_of C.left C.written C.read_faults C.write_faults console.old)
-        (seen_of C.left C.written C.read_faults C.write_faults console.new) (code_of result) }
+        (C.about console.old) (C.about console.new) (code_of result) }
 {
     match zeros(alloc, INPUT_ROOM) {
         Err(NoMemory) => fault(console, Status::NoMemory),

@@ -1,7 +1,7 @@
 // A connection is answered.
-ghost use Rattle.std.specs.Prelude.{◌≡◌, ◌≤◌, ℕ, List, length, take, not, IsTrue};
-ghost use Rattle.sat_base.specs.Outside.{with_end, Counts};
-ghost use Rattle.satellite_cli.specs.Speaking.{Tells, IsAnswer, words_text, term_text};
+ghost use Rattle.std.specs.Prelude.{◌≡◌, ℕ, List};
+ghost use Rattle.sat_base.specs.Streams.{Wrote};
+ghost use Rattle.satellite_cli.specs.Speaking.{Tells, IsAnswer, IsSayable, words_text, term_text};
 
 use http_edge::{EdgeErr, Sent, answer, edge_answer, memory_answer, send};
 use machine_calls::Reply;
@@ -12,7 +12,7 @@ use std::alloc::Global;
 /// What a connection is told.
 #[derive(Debug, PartialEq, Eq, Drop)]
 pub enum Said {
-    /// The machine's reply.
+    /// The machine's reply, which is one that callers are told.
     Reply(Reply),
     /// Why its bytes ask nothing.
     Edge(EdgeErr),
@@ -25,12 +25,8 @@ pub enum Said {
 /// Sends the text of what is said, or that memory is wanting. It tells whether the whole text was written; where it
 /// wasn't, a put failed, and a part from its front was.
 pub fn speak<N: Link>(alloc: Global, keys: &Keys, link: &mut N, said: &Said) -> bool
-    ensures all { IsTrue result → (text : List ℕ) × Tells keys.now said.now text × (N.written link.new ≡ with_end (N.written link.old) text) }
-    ensures some { (text : List ℕ) × (n : ℕ) × Tells keys.now said.now text × (n ≤ length text)
-        × (N.written link.new ≡ with_end (N.written link.old) (take n text)) }
-    ensures write_faults { Counts (not result) (N.write_faults link.old) (N.write_faults link.new) }
-    ensures left { N.left link.new ≡ N.left link.old }
-    ensures read_faults { N.read_faults link.new ≡ N.read_faults link.old }
+    requires { IsSayable said.now }
+    ensures { (text : List ℕ) × Tells keys.now said.now text × Wrote text result (N.about link.old) (N.about link.new) }
 {
     match said {
         Said::Reply(reply) => send_or_tell(link, answer(alloc, keys, reply)),
@@ -42,11 +38,7 @@ pub fn speak<N: Link>(alloc: Global, keys: &Keys, link: &mut N, said: &Said) -> 
 
 // Sends the text.
 fn send_all<N: Link>(link: &mut N, text: &[u8]) -> bool
-    ensures all { IsTrue result → N.written link.new ≡ with_end (N.written link.old) text.now }
-    ensures some { (n : ℕ) × (n ≤ length text.now) × (N.written link.new ≡ with_end (N.written link.old) (take n text.now)) }
-    ensures write_faults { Counts (not result) (N.write_faults link.old) (N.write_faults link.new) }
-    ensures left { N.left link.new ≡ N.left link.old }
-    ensures read_faults { N.read_faults link.new ≡ N.read_faults link.old }
+    ensures { Wrote text.now result (N.about link.old) (N.about link.new) }
 {
     match send(link, text) {
         Sent::All => true,
@@ -56,12 +48,7 @@ fn send_all<N: Link>(link: &mut N, text: &[u8]) -> bool
 
 // Sends the text, or where there is none that memory is wanting.
 fn send_or_tell<N: Link>(link: &mut N, text: Result<Bytes, NoMemory>) -> bool
-    ensures all { IsTrue result → (sent : List ℕ) × IsAnswer text sent × (N.written link.new ≡ with_end (N.written link.old) sent) }
-    ensures some { (sent : List ℕ) × (n : ℕ) × IsAnswer text sent × (n ≤ length sent)
-        × (N.written link.new ≡ with_end (N.written link.old) (take n sent)) }
-    ensures write_faults { Counts (not result) (N.write_faults link.old) (N.write_faults link.new) }
-    ensures left { N.left link.new ≡ N.left link.old }
-    ensures read_faults { N.read_faults link.new ≡ N.read_faults link.old }
+    ensures { (sent : List ℕ) × IsAnswer text sent × Wrote sent result (N.about link.old) (N.about link.new) }
 {
     match text {
         Ok(text) => send_all(link, text.as_slice()),

@@ -5,7 +5,7 @@ ghost use Rattle.satellite_cli.specs.Answers.{IsSettleText, answers_to};
 ghost use Rattle.satellite_cli.specs.Command.{command_of};
 ghost use Rattle.satellite_cli.specs.Judge.{Judges, RefusesLine, shares_of};
 ghost use Rattle.satellite_cli.specs.Once.{SettlesOnce};
-ghost use Rattle.satellite_cli.specs.Run.{NoRefusal, Ran, Says, fault_line, seen_of};
+ghost use Rattle.satellite_cli.specs.Run.{NoRefusal, Ran, Says, code_of, fault_line, max_input};
 
 use crate::command::{Command, read_line};
 use crate::judge::{Judge, judged_scheme};
@@ -42,22 +42,19 @@ pub fn satellite<C: Link>(alloc: Global, line: &Line, world: World<C>) -> Ended<
     // 2 exactly where the words are outside the grammar, and then the console says so.
     ensures usage { (result.status ≡ 2) ↔ (command_of line.now ≡ None) }
     ensures usage_line { command_of line.now ≡ None →
-        Says (fault_line 2)
-        (seen_of C.left C.written C.read_faults C.write_faults world.console)
-        (seen_of C.left C.written C.read_faults C.write_faults result.world.console) }
+        Says (fault_line (code_of Status.Usage)) (C.about world.console) (C.about result.world.console) }
 
     // `settle`: what was read and written, and the cause of each status. It refuses no input.
     ensures settle { (secret : List ℕ) (cap : ℕ) → command_of line.now ≡ Some (Command.Settle secret cap) →
         Ran (IsSettleText secret cap) NoRefusal
-        (seen_of C.left C.written C.read_faults C.write_faults world.console)
-        (seen_of C.left C.written C.read_faults C.write_faults result.world.console) result.status }
+        (C.about world.console) (C.about result.world.console) result.status }
 
     // A short input and no fault: 0, or want of memory.
     ensures complete { (secret : List ℕ) (cap : ℕ) (bytes : List ℕ) →
         command_of line.now ≡ Some (Command.Settle secret cap) →
-        C.left world.console ≡ Some bytes → length bytes ≤ 1048576 →
-        (Rose (C.read_faults world.console) (C.read_faults result.world.console) → ⊥) →
-        (Rose (C.write_faults world.console) (C.write_faults result.world.console) → ⊥) →
+        (C.about world.console).left ≡ Some bytes → length bytes ≤ max_input →
+        (Rose (C.about world.console).read_faults (C.about result.world.console).read_faults → ⊥) →
+        (Rose (C.about world.console).write_faults (C.about result.world.console).write_faults → ⊥) →
         (result.status ≡ 0) ⊎ (result.status ≡ 9) }
 
     // The law of its answers: nothing settles twice, and nothing above its limit.
@@ -68,15 +65,14 @@ pub fn satellite<C: Link>(alloc: Global, line: &Line, world: World<C>) -> Ended<
     // line has another form or an index that doesn't rise.
     ensures judge { (k size : ℕ) → command_of line.now ≡ Some (Command.Judge k size) →
         Ran (Judges k size) RefusesLine
-        (seen_of C.left C.written C.read_faults C.write_faults world.console)
-        (seen_of C.left C.written C.read_faults C.write_faults result.world.console) result.status }
+        (C.about world.console) (C.about result.world.console) result.status }
 
     // A short input and no fault: by its lines 0 or 8, or want of memory.
     ensures judge_complete { (k size : ℕ) (bytes : List ℕ) →
         command_of line.now ≡ Some (Command.Judge k size) →
-        C.left world.console ≡ Some bytes → length bytes ≤ 1048576 →
-        (Rose (C.read_faults world.console) (C.read_faults result.world.console) → ⊥) →
-        (Rose (C.write_faults world.console) (C.write_faults result.world.console) → ⊥) →
+        (C.about world.console).left ≡ Some bytes → length bytes ≤ max_input →
+        (Rose (C.about world.console).read_faults (C.about result.world.console).read_faults → ⊥) →
+        (Rose (C.about world.console).write_faults (C.about result.world.console).write_faults → ⊥) →
         MatchResult (shares_of bytes)
         (λ shares. (result.status ≡ 0) ⊎ (result.status ≡ 9))
         (λ number. (result.status ≡ 8) ⊎ (result.status ≡ 9)) }

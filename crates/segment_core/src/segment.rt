@@ -1,5 +1,4 @@
-use ordered_rows::Ranked;
-use sat_base::{At, CustomerId, Items, SegId};
+use sat_base::{At, CustomerId, Items, Ranked, SegId};
 use std::marker::Model;
 
 /// A segment, and where its pieces lie.

@@ -1,7 +1,7 @@
 -- A row that is added where its key had none is found by it from then on, and each other row as before.
 use Rattle.std.proofs.Common.{◌≡◌, ◌≢◌, ℕ, List, Some, None, refl, sym, ap, ◌∙◌}
 use Rattle.std.proofs.lemmas.Bool.{eq-eqb, ne_eqb}
-use Rattle.ordered_rows.proofs.Found.{row_at-added}
+use Rattle.rows.proofs.Found.{row_at-added}
 use Rattle.settlement.specs.declared.row.SettledRow.{SettledRow}
 use Rattle.settlement.specs.Rows.{key, row_of, added}
 

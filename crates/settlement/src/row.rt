@@ -2,7 +2,7 @@ ghost use Rattle.std.specs.Prelude.{◌≡◌};
 ghost use Rattle.settlement.specs.Place.{place};
 
 use order_limits::Action;
-use ordered_rows::Ranked;
+use rows::Ranked;
 use sat_base::{Moment, NodeId, Serial};
 
 /// One settled order.

@@ -1,13 +1,14 @@
 ghost use Rattle.std.specs.Prelude.{◌≡◌, ℕ, ◌<◌, ◌≤◌, ◌+◌, ◌-◌, ◌*◌, List, [], length, IsNone, IsSome, IfOk, IfErr, OnOk, OnErr, Ok, Err};
 ghost use Rattle.std.specs.Option.{option_copied};
+ghost use Rattle.rows.specs.Rows.{IsRising};
 ghost use Rattle.settlement.specs.Place.{place};
 ghost use Rattle.settlement.specs.Rows.{key, row_of, next_of, added, Kept};
 ghost use Rattle.settlement.specs.Settle.{fresh, order_settlable, settlable, settled_as, rows_after, UnlessMemory, IfNew, IfSettled, IsRowOf, SettlesFirst, KeepsRows};
 
 use crate::answer::{Settlable, SettleErr, Settling};
 use crate::row::{SettledRow, place_of};
-use block_rows::BlockRows;
 use order_limits::{Keys, Order, read_order};
+use rows::BlockRows;
 use sat_base::{Moment, NoMemory, NodeId, Serial};
 use std::alloc::Global;
 use std::marker::Model;
@@ -18,7 +19,7 @@ const SETTLE_SECONDS: u64 = 172800;
 /// The settled orders of a store: one row for each pair of a serial and a node, in their order.
 ///
 /// Contracts see the list of the rows, the cap on their number, and `spare`, the number of rows for which
-/// there is room. A look-up costs the logarithm of the rows; adding a row moves a few hundred at most, and now and
+/// there is room; the rows rise by serial and node, as each call tells. A look-up costs the logarithm of the rows; adding a row moves a few hundred at most, and now and
 /// then the list of their blocks.
 #[derive(Drop)]
 pub struct Settled {
@@ -32,7 +33,11 @@ impl Model for Settled {
 
     ghost view = { λ s. record { rows = s.rows.rows; cap = s.cap; spare = s.rows.spare } };
 
-    ghost invariant = { λ s. record { count : s.count ≡ length s.rows.rows; below : s.count ≤ s.cap } };
+    ghost invariant = { λ s. record {
+      count : s.count ≡ length s.rows.rows;
+      below : s.count ≤ s.cap;
+      rise : IsRising key s.rows.rows;
+    } };
 }
 
 impl Settled {
@@ -58,7 +63,8 @@ impl Settled {
     /// The first row above a serial and a node, or the first of all where none is named. None where there
     /// is no such row.
     pub fn next_row(&self, after: Option<(Serial, NodeId)>) -> Option<&SettledRow>
-        ensures { option_copied result ≡ next_of self.now.rows after }
+        ensures row { option_copied result ≡ next_of self.now.rows after }
+        ensures rows_rise { IsRising key self.now.rows }
     {
         match after {
             None => self.rows.first(),
@@ -82,6 +88,7 @@ impl Settled {
         requires below { length self.old.rows < self.old.cap }
         requires absent { row_of self.old.rows (key row) ≡ None }
         ensures rows { self.new.rows ≡ added row self.old.rows }
+        ensures rows_rise { IsRising key self.new.rows }
         ensures cap { self.new.cap ≡ self.old.cap }
         ensures spare { self.new.spare + 1 ≡ self.old.spare }
     {
@@ -157,7 +164,10 @@ impl Settled {
         ensures good { IfNew result (IsRowOf keys.now node now bytes.now) }
         ensures room { IfNew result (λ _. length self.now.rows < self.now.cap) }
         ensures absent { IfNew result (λ row. row_of self.now.rows (key row) ≡ None) }
+        ensures rows_rise { IsRising key self.now.rows }
     {
+        // read, so that its rows are known to rise whatever the answer
+        let _rows = &self.rows;
         match read_order(keys, bytes) {
             Ok(order) => self.order_answer(&order, node, now),
             Err(e) => Err(e.into()),
@@ -183,6 +193,7 @@ impl Settled {
         // At most once: what is settled had no row of its serial and node, and has one from now on.
         ensures first { IfSettled result (SettlesFirst self.old.rows self.new.rows keys.now node now bytes.now) }
         ensures kept { KeepsRows self.old.rows self.new.rows }
+        ensures rows_rise { IsRising key self.new.rows }
         ensures cap { self.new.cap ≡ self.old.cap }
     {
         match self.check(keys, node, now, bytes) {

@@ -1,5 +1,12 @@
-//! The rules of the tables, tested over rows of which a machine is to be made: each function names the first row
-//! that breaks its kind's rule.
+//! The rules of the tables, tested over rows of which a machine is to be made.
+//!
+//! Each function names exactly the first row that breaks its kind's rule, or none where all keep it: [`bad_node`],
+//! [`bad_customer`], [`bad_segment`], [`bad_settled`], [`bad_kept`], [`bad_tariff`], and [`are_sound_marks`] for the
+//! marks. The rules are those of `machine_step`.
+//!
+//! A test passes over the rows once. Nothing here takes memory.
+//!
+//! Not promised: the bounds of records and the order of rows. What makes a machine asks for them.
 #![tactic(auto)]
 
 mod customers;

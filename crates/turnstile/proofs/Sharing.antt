@@ -96,7 +96,7 @@ module _ {V C A B : Type 0} (base : V → B) (entries : V → List (Entry C A)) 
         keeps,
         tt,
         stays_at base entries room lawful b term 1 id m s r at (slice_index s.words 1) refl (ap (set s.words 1) there ∙ (ap (λ ws. set ws 1 (length r.history)) r.words_are ∙ sym r.words_are)),
-        (refl, λ n above below. own-none_own (n ∷ []) m.0.seen (none_own-front (n ∷ []) m.0.seen f.answers.0 (ap (none_own (n ∷ [])) (sym f.answers.1) ∙ unused_free s r id m.0 at n above below))),
+        (refl, λ n above below. own-none_own (n ∷ []) m.0.seen (none_own-front (n ∷ []) m.0.seen f.answers.0 (ap (none_own (n ∷ [])) (sym f.answers.1) ∙ unused_free s r id m.0 at n above below)), f.range_unused),
       )
 
   -- the owner of a number after a split

@@ -1,5 +1,5 @@
 -- What is known of passes, before and after each call of the desk.
-use Rattle.std.specs.Prelude.{◌≡◌, ℕ, ◌+◌, ◌-◌, ◌/◌, ◌^◌, ◌<◌, ◌≤◌, List, [], ◌∷◌, ◌++◌, length, true, cond, nat_lt, Option, Some, None}
+use Rattle.std.specs.Prelude.{◌≡◌, ◌≢◌, ◌⊎◌, ℕ, ◌+◌, ◌-◌, ◌/◌, ◌^◌, ◌<◌, ◌≤◌, List, [], ◌∷◌, ◌++◌, length, true, cond, nat_lt, Option, Some, None}
 use Rattle.atomic_table.specs.Seated.{TableId}
 use Rattle.turnstile.specs.declared.entry.Entry.{Entry}
 use Rattle.turnstile.specs.History.{has, StartsWith, own}
@@ -93,6 +93,19 @@ module _ {C A B : Type 0} where
   -- the half that is given away: it has a number of its own and has seen as much
   abbrev pub given_half : Known C A B → Known C A B
   given_half k = record k { number = given_number k; numbers = given_number k ∷ []; spare = k.spare / 2; parts = k.parts / 2 }
+
+  -- the pass answers for the number, or may give it away
+  abbrev pub IsNumberOf : Known C A B → ℕ → Type 0
+  IsNumberOf k n = (has k.numbers n ≡ true) ⊎ ((k.number ≤ n) × (n < k.number + k.spare))
+
+  -- No number is with both passes. So their own differ, and so do those of any passes that they are split into.
+  pub record AreApart (one other : Known C A B) : Type 0 where
+    pub differ : one.number ≢ other.number
+    pub none_of_both : (n : ℕ) → IsNumberOf one n → IsNumberOf other n → ⊥
+
+  -- each number of the one is a number of the other
+  abbrev pub HasNumbersOf : Known C A B → Known C A B → Type 0
+  HasNumbersOf one other = (n : ℕ) → IsNumberOf one n → IsNumberOf other n
 
   -- what was seen begins with what the pass had seen, and has the same entries with each of its numbers
   pub record Remembers (seen : List (Entry C A)) (k : Known C A B) : Type 0 where

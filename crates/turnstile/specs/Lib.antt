@@ -2,7 +2,6 @@ pub mod Entry
 pub mod History
 pub mod Known
 pub mod Passes
-pub mod Register
 pub mod Rule
 pub mod Steps
 pub mod Turned

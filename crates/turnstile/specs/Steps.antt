@@ -49,9 +49,10 @@ module _ {V C A B : Type 0} where
   abbrev pub served : (V → List (Entry C A)) → Step V → Me V (SeatView C A B) → ℕ → Me V (SeatView C A B) → Type 0
   served entries st m r m' = (x : V) → m.1 ≡ (0, x) ∷ rest m.1 → m' ≡ (after_turn m.0 (entries x), rest m.1)
 
-  -- before a split: no entry that was seen has a number that is still to be given away
+  -- before a split: a number that is still to be given away is none that the pass answers for, and no entry that was seen has it
   abbrev pub vacant : Step V → Me V (SeatView C A B) → ℕ → Me V (SeatView C A B) → Type 0
   vacant st m r m' = (m' ≡ m) × ((n : ℕ) → m.0.number < n → n < m.0.number + m.0.spare → own (n ∷ []) m.0.seen ≡ [])
+      × ((n : ℕ) → m.0.number < n → n < m.0.number + m.0.spare → has m.0.numbers n ≡ false)
 
 module _ {C A B : Type 0} where
   abbrev pub left_half : SeatView C A B → SeatView C A B

@@ -1,7 +1,7 @@
 //! The desk: threads draw tickets, and each takes its turn when its ticket comes up.
 ghost use Rattle.std.specs.Prelude.{◌≡◌, ℕ, ◌+◌, ◌^◌, ◌<◌, ◌≤◌, [], length, Some, false, IfOk, IfErr};
 ghost use Rattle.turnstile.specs.History.{own};
-ghost use Rattle.turnstile.specs.Known.{first_pass, with_mark, own_entries, kept_half, given_half, or_else, Enters, Joined};
+ghost use Rattle.turnstile.specs.Known.{first_pass, with_mark, own_entries, kept_half, given_half, or_else, Enters, Joined, AreApart, HasNumbersOf};
 ghost use Rattle.turnstile.specs.Steps.{Came};
 
 use crate::pass::{Pass, PassAt, reseat};
@@ -202,6 +202,10 @@ impl<V: Turn> Desk<V> {
         ensures kept { result.0 ≡ kept_half pass }
         ensures given { result.1 ≡ given_half pass }
         ensures none { own_entries result.1 ≡ [] }
+
+        // All numbers are with the first pass of a desk. So by these clauses two passes of it never share one.
+        ensures apart { AreApart result.0 result.1 }
+        ensures from_pass { HasNumbersOf result.0 pass × HasNumbersOf result.1 pass }
     {
         let Pass {
             number,

@@ -47,7 +47,7 @@ impl<V: Turn> Play<V, SeatView<V::Call, V::Reply, V::Base>> for Serve {
     ghost then = { served V.entries };
 }
 
-/// Tells that no entry has a number that is still to be given away.
+/// Tells that a number that is still to be given away is the pass's no yet, and no entry's.
 pub struct Spare;
 
 impl<V: Turn> Play<V, SeatView<V::Call, V::Reply, V::Base>> for Spare {

@@ -1,15 +1,15 @@
 -- A node more. Its id is one above the greatest.
 use Rattle.std.specs.Prelude.{ℕ, ◌+◌, [], ◌∷◌, length, nat_le}
-use Rattle.sat_base.specs.declared.ids.CustomerId.{CustomerId}
 use Rattle.sat_base.specs.declared.requests.Asked.TheVariants as asks
 use Rattle.sat_base.specs.declared.requests.Done.TheVariants as dones
 use Rattle.node_registry.specs.declared.node.Node.{Node}
 use Rattle.node_registry.specs.declared.node.Status.TheVariants.{Active}
+use Rattle.machine_calls.specs.declared.asking.Asking.{Asking}
 use Rattle.machine_calls.specs.declared.change.RecChange.TheVariants as changes
 use Rattle.machine_calls.specs.declared.refusal.Refusal.TheVariants as refusals
 use Rattle.machine_calls.specs.declared.refusal.TableName.TheVariants as names
-use Rattle.machine_step.specs.Tables.{Tables, kept_at}
-use Rattle.machine_step.specs.Outcome.{Outcome, unless, numbered, done_with}
+use Rattle.machine_step.specs.Tables.{Tables}
+use Rattle.machine_step.specs.Outcome.{Outcome, unless, of_caller, done_with}
 
 -- a node as it joins
 abbrev pub new_node : ℕ → ℕ → ℕ → ℕ → ℕ → Node
@@ -25,17 +25,14 @@ new_node id addr port free time = record {
   status = Active;
 }
 
-abbrev pub node_added : Tables → ℕ → ℕ → ℕ → ℕ → ℕ → Outcome
-node_added t time request addr port free =
+abbrev pub node_added : Tables → Asking → ℕ → ℕ → ℕ → Outcome
+node_added t asking addr port free =
     let id = length t.nodes + 1 in
-    done_with (record t.marks { time = time }) (changes.Node (new_node id addr port free time) ∷ [])
-    (record { 0 = 0 }) request (asks.Node addr port free) (dones.NodeAdded (record { 0 = id }))
+    done_with (record t.marks { time = asking.time }) (changes.Node (new_node id addr port free asking.time) ∷ [])
+    asking (asks.Node addr port free) (dones.NodeAdded (record { 0 = id }))
 
--- a new request
-abbrev pub add_node_new : Tables → ℕ → ℕ → ℕ → ℕ → ℕ → Outcome
-add_node_new t time request addr port free =
-    unless (nat_le t.setup.caps.nodes (length t.nodes)) (refusals.TableFull names.Nodes) (node_added t time request addr port free)
-
-abbrev pub add_node : Tables → ℕ → ℕ → ℕ → ℕ → ℕ → Outcome
-add_node t time request addr port free =
-    numbered (kept_at t.kept 0) request (asks.Node addr port free) (add_node_new t time request addr port free)
+abbrev pub add_node : Tables → Asking → ℕ → ℕ → ℕ → Outcome
+add_node t asking addr port free =
+    of_caller t asking (asks.Node addr port free)
+    (unless (nat_le t.setup.caps.nodes (length t.nodes)) (refusals.TableFull names.Nodes)
+    (node_added t asking addr port free))

@@ -1,4 +1,4 @@
-use Rattle.std.proofs.Common.{rules, ◌≡◌, ◌++◌, ◌∙◌}
+use Rattle.std.proofs.Common.{rules, ◌≡◌, ◌++◌, ◌∙◌, arith}
 use Rattle.http_edge.proofs.RequestLemmas.{whole_is, unread_says, unread_fails}
 use Rattle.http_edge.proofs.request.with_body.Goals as goal
 
@@ -11,5 +11,7 @@ returns-in-Ok-clause-outcome g c = λ l o n. let b = c.in-Ok.ensures.body l o in
 pub returns-clause-outcome : goal.returns-clause-outcome
 returns-clause-outcome g c = λ l o. rw c.unread.ensures (unread_says c.args.route c.args.size (c.args.read.now ++ l) c.in-Err.e (c.in-Err.ensures.body l o))
 
-pub returns-clause-faults : goal.returns-clause-faults
-returns-clause-faults g c = rw (c.unread.ensures, unread_fails c.in-Err.e) c.in-Err.ensures.faults
+pub returns-clause-took : goal.returns-clause-took
+returns-clause-took g c =
+    let m = c.in-Err.ensures.took in
+    rw (c.unread.ensures, unread_fails c.in-Err.e) (m.0, m.1, omega (arith, m.2))

@@ -2,6 +2,7 @@ use Rattle.std.proofs.Common.{◌≡◌, map}
 use Rattle.sat_base.specs.Rows.{entry}
 use Rattle.sat_base.specs.Rows.{AreInOrder}
 use Rattle.keeper_sqlite.specs.Records.{entry_shown}
+use Rattle.keeper_sqlite.specs.Opened.{ShowByteKinds}
 use Rattle.keeper_sqlite.proofs.loading.rows_of.Given as goal
 
 abbrev pub invariant-loop-row : goal.invariant-loop-row
@@ -10,4 +11,5 @@ invariant-loop-row l = record {
   ends : (goal.iterator-loop-row).is_finite l.row-iterator;
   order : AreInOrder l.all.items;
   same : map entry l.all.items ≡ map entry_shown l.yielded;
+  kinds : ShowByteKinds l.yielded;
 }

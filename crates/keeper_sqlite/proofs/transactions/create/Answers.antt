@@ -1,10 +1,10 @@
-use Rattle.std.proofs.Common.{◌≡◌, IsTrue, rules, subst}
+use Rattle.std.proofs.Common.{◌≡◌, IsTrue, OnOk, rules, subst}
 use Rattle.sqlite.specs.State.{HasCleanDisk}
 use Rattle.sqlite.specs.Held.{Held, state}
 use Rattle.sat_base.specs.Rows.{Rows}
 use Rattle.keeper_sqlite.specs.Records.{Holds}
 use Rattle.keeper_sqlite.specs.Transitions.{Commits, Keeps}
-use Rattle.keeper_sqlite.proofs.LastCommit.{commits, keeps_begun}
+use Rattle.keeper_sqlite.proofs.LastCommit.{commits, commit_opens, keeps_begun}
 use Rattle.keeper_sqlite.proofs.transactions.create.Goals as goal
 
 pub returns-clause-commits : goal.returns-clause-commits
@@ -20,3 +20,10 @@ returns-clause-commits g c =
     let settled = λ (up : IsTrue first.is_open). c.is_autocommit-settled.ensures.settled (search rules) up in
     subst (λ (h : Held _). Commits first (state g.S.Store h) (λ rows. rows) c.commit.result) same
     (commits first mid (state g.S.Store last) (λ rows. rows) kept went settled rows c.commit.ensures.survives c.commit.result c.commit.ensures.ok c.commit.ensures.err)
+
+pub returns-clause-open : goal.returns-clause-open
+returns-clause-open g c =
+    let last = c.commit.new.self.0 in
+    let same : last ≡ c.conn-2-1.given.0 = search rules in
+    subst (λ (h : Held _). HasCleanDisk (state g.S.Store h) → OnOk c.commit.result (IsTrue (state g.S.Store h).is_open)) same
+    (commit_opens (state g.S.Store c.create_table.new.tx.conn.now) (state g.S.Store last) c.commit.result c.commit.ensures.ok)

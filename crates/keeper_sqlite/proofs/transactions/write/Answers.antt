@@ -1,4 +1,4 @@
-use Rattle.std.proofs.Common.{◌≡◌, ◌<◌, ◌+◌, IsTrue, List, take, subst, rules, arith}
+use Rattle.std.proofs.Common.{◌≡◌, ◌<◌, ◌+◌, IsTrue, OnOk, List, take, subst, rules, arith}
 use Rattle.std.proofs.lemmas.Grind.{common_steps}
 use Rattle.std.proofs.lemmas.Bool.Decides.{nat_tests}
 use Rattle.sqlite.specs.State.{HasCleanDisk}
@@ -6,7 +6,7 @@ use Rattle.sqlite.specs.Held.{Held, state}
 use Rattle.sat_base.specs.Rows.{changed, change_of, Rows}
 use Rattle.keeper_sqlite.specs.Records.{Holds}
 use Rattle.keeper_sqlite.specs.Transitions.{Commits}
-use Rattle.keeper_sqlite.proofs.LastCommit.{commits, one_more, steps}
+use Rattle.keeper_sqlite.proofs.LastCommit.{commits, commit_opens, one_more, steps}
 use Rattle.keeper_sqlite.proofs.transactions.write.Goals as goal
 
 pub changes-preserved : goal.changes-preserved
@@ -32,3 +32,10 @@ returns-clause-commits g c =
     let settled = λ (up : IsTrue first.is_open). c.is_autocommit-settled.ensures.settled (search rules) up in
     subst (λ (h : Held _). Commits first (state g.S.Store h) (changed c.args.changes.now) c.commit.result) same
     (commits first mid (state g.S.Store last) (changed c.args.changes.now) c.changes.invariant.kept (λ clean. c.changes.invariant.went clean some) settled rows c.commit.ensures.survives c.commit.result c.commit.ensures.ok c.commit.ensures.err)
+
+pub returns-clause-open : goal.returns-clause-open
+returns-clause-open g c =
+    let last = c.commit.new.self.0 in
+    let same : last ≡ c.conn-2-1.given.0 = search rules in
+    subst (λ (h : Held _). HasCleanDisk (state g.S.Store h) → OnOk c.commit.result (IsTrue (state g.S.Store h).is_open)) same
+    (commit_opens (state g.S.Store c.changes.tx.conn.now) (state g.S.Store last) c.commit.result c.commit.ensures.ok)

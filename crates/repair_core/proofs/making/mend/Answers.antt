@@ -8,7 +8,7 @@ use Rattle.bw_decode.proofs.Rounds.{few_answers}
 use Rattle.repair_core.specs.Answers.{answers_at}
 use Rattle.repair_core.specs.Stripes.{IsStripe, IsNoneNear}
 use Rattle.repair_core.specs.Room.{IsMade, IsMended, IsWritten}
-use Rattle.repair_core.proofs.Mending.{written, indexes_of-answers_at, fresh_written, still_below, still_long}
+use Rattle.repair_core.proofs.Mending.{of_scheme, written, indexes_of-answers_at, fresh_written, still_below, still_long}
 use Rattle.repair_core.proofs.making.mend.Goals as goal
 
 pub slice_bounds-altered_room-end : goal.slice_bounds-altered_room-end
@@ -91,7 +91,8 @@ returns-then-eq-clause-near c = λ is.
       fresh_are = fresh_written k size done stripe c.args.made.now.fresh.items c.write_shares.new.fresh
           (c.write_shares.auto.fresh ∙ ap length c.as_mut_slice-fresh.ensures.value)
           (subst (λ (xs : List Share). (i : ℕ) (d : Share) → i < length xs → IsWritten k size done stripe (slice_index_or xs i d) (slice_index_or c.write_shares.new.fresh i d)) c.as_mut_slice-fresh.ensures.value
-          (subst (λ (xs : List ℕ). (i : ℕ) (d : Share) → i < length c.as_mut_slice-fresh.result.now → IsWritten k size done xs (slice_index_or c.as_mut_slice-fresh.result.now i d) (slice_index_or c.write_shares.new.fresh i d)) shown c.write_shares.ensures));
+          (subst (λ (xs : List ℕ). (i : ℕ) (d : Share) → i < length c.as_mut_slice-fresh.result.now → IsWritten k size done xs (slice_index_or c.as_mut_slice-fresh.result.now i d) (slice_index_or c.write_shares.new.fresh i d)) shown
+          (of_scheme k size done c.args.made.now.encoder c.as_slice-then-eq.result.now c.args.made.now.fresh.items c.as_mut_slice-fresh.result.now c.write_shares.new.fresh c.requires.encoder c.write_shares.ensures.written)));
     } in
     rw (stripe_is, marks_is, fresh_is) made
 
@@ -108,7 +109,8 @@ returns-then-eq-clause-made c = λ is.
     let marks_is = written c.mark.new.marks c.args.made.now.marks.len (drop (length c.mark.new.marks) c.args.made.now.marks.items) marks_len in
     let fresh_is = written new c.args.made.now.fresh.len (drop (length new) c.args.made.now.fresh.items) fresh_len in
     let same = c.write_shares.auto.fresh ∙ ap length c.as_mut_slice-fresh.ensures.value in
-    let each = subst (λ (xs : List Share). (i : ℕ) (d : Share) → i < length xs → IsWritten k size done stripe (slice_index_or xs i d) (slice_index_or new i d)) c.as_mut_slice-fresh.ensures.value c.write_shares.ensures in
+    let each = subst (λ (xs : List Share). (i : ℕ) (d : Share) → i < length xs → IsWritten k size done stripe (slice_index_or xs i d) (slice_index_or new i d)) c.as_mut_slice-fresh.ensures.value
+    (of_scheme k size done c.args.made.now.encoder stripe old c.as_mut_slice-fresh.result.now new c.requires.encoder c.write_shares.ensures.written) in
     let made : IsMade size c.args.scheme.now.n c.args.made.now.whole (done + 1) c.mark.new.marks new
     = record {
       indexes = c.mark.auto.marks ∙ ap length c.as_mut_slice-then-eq.ensures.value ∙ c.requires.made.indexes;

@@ -7,6 +7,7 @@ loop-s-init c =
     let made = c.args.made.now in
     record {
       made = c.requires.made;
+      encoder = c.requires.encoder;
       done = omega arith;
       whole = refl;
       room = c.requires.room;
@@ -25,6 +26,7 @@ loop-s-preserved c =
     let new = c.mend.new.made in
     record {
       made = mended.made is;
+      encoder = mended.encoder is;
       done = omega (arith, mended.done is, before.done);
       whole = mended.whole ∙ before.whole;
       room = mended.room;

@@ -6,6 +6,7 @@ use Rattle.repair_core.proofs.rebuilding.mend_whole.Goals as goal
 pub loop-s-init : goal.loop-s-init
 loop-s-init c = record {
   made = c.requires.made;
+  encoder = c.requires.encoder;
   done = c.requires.start;
   whole = refl;
   room = c.requires.room;
@@ -24,6 +25,7 @@ loop-s-preserved c =
     let new = c.mend.new.made in
     record {
       made = mended.made is;
+      encoder = mended.encoder is;
       done = omega (arith, mended.done is, before.done);
       whole = mended.whole ∙ before.whole;
       room = mended.room;

@@ -1,6 +1,6 @@
 use Rattle.std.proofs.Common.{◌≡◌, [], ◌∷◌, ◌++◌, ap, sym, subst, ◌∙◌, append_assoc}
 use Rattle.std.specs.Vec.Iter.{into_iter_items}
-use Rattle.ordered_rows.specs.Rows.{IsRising}
+use Rattle.rows.specs.Rows.{IsRising}
 use Rattle.settlement.specs.Rows.{key, row_of, added}
 use Rattle.sat_machine.proofs.OpeningLemmas.{added_last, absent_last}
 use Rattle.sat_machine.proofs.opening.settled_table.Goals as goal

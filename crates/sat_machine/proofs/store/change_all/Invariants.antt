@@ -1,13 +1,13 @@
-use Rattle.std.proofs.Common.{◌≡◌, reverse, vec_len}
+use Rattle.std.proofs.Common.{◌≡◌, true, reverse, vec_len}
 use Rattle.machine_step.specs.Tables.{all_changed}
-use Rattle.sat_machine.specs.Store.{tables_of, GoesBySettings, ArePlaced, AreOrderly}
+use Rattle.sat_machine.specs.Store.{tables_of, GoesBySettings, ArePlaced, are_orderly}
 use Rattle.sat_machine.proofs.store.change_all.Given as goal
 
 -- the changes that are left have room, and lead to where all lead
 abbrev pub invariant-loop-first : goal.invariant-loop-first
 invariant-loop-first l = record {
   placed : ArePlaced l.store (reverse l.rest.items);
-  orderly : AreOrderly (reverse l.rest.items);
+  orderly : are_orderly (reverse l.rest.items) ≡ true;
   own : GoesBySettings l.store;
   leads : all_changed (tables_of l.store) (reverse l.rest.items) ≡ all_changed (tables_of l.fn.store) l.fn.changes.items;
 }

@@ -1,4 +1,4 @@
-use Rattle.std.proofs.Common.{refl, ap}
+use Rattle.std.proofs.Common.{refl, ap, arith}
 use Rattle.satellite_cli.specs.Run.{code_of}
 use Rattle.satellite_cli.proofs.Runs.{answers_fault, answers_refused, answers_whole, answers_cut}
 use Rattle.satellite_cli.proofs.run.answer_read.Goals as goal
@@ -13,9 +13,10 @@ returns-in-Ok-Refused g c =
 pub returns-then-write_all : goal.returns-then-write_all
 returns-then-write_all g c =
     let w = c.if-write_all.ensures in
-    answers_whole _ _ c.args.input.now c.in-Ok-Text.text.items c.deref-in-Ok-Text.result.now _ _ (rw c.in-Ok-Text.field-0-is at c.in-Ok-Text.ensures) c.deref-in-Ok-Text.ensures.value (w.all refl) w.left w.read_faults
+    answers_whole _ _ c.args.input.now c.in-Ok-Text.text.items c.deref-in-Ok-Text.result.now _ _ (rw c.in-Ok-Text.field-0-is at c.in-Ok-Text.ensures) c.deref-in-Ok-Text.ensures.value (w.all refl) w.input
 
 pub returns : goal.returns
 returns g c =
     let w = c.if-write_all.ensures in
-    answers_cut _ _ c.args.input.now c.in-Ok-Text.text.items c.deref-in-Ok-Text.result.now _ _ w.some.0 (rw c.in-Ok-Text.field-0-is at c.in-Ok-Text.ensures) c.deref-in-Ok-Text.ensures.value w.some.1 (w.failed refl) w.left w.read_faults
+    let rose = w.faults.1 in
+    answers_cut _ _ c.args.input.now c.in-Ok-Text.text.items c.deref-in-Ok-Text.result.now _ _ w.some.0 (rw c.in-Ok-Text.field-0-is at c.in-Ok-Text.ensures) c.deref-in-Ok-Text.ensures.value w.some.2 (omega (arith, rose)) w.input

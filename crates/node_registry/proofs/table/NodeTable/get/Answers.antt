@@ -1,5 +1,5 @@
 use Rattle.std.proofs.Common.{◌≡◌, ℕ, ◌-◌, option_copied, sym, ◌∙◌, arith}
-use Rattle.ordered_rows.proofs.Items.{copied_at}
+use Rattle.rows.proofs.Items.{copied_at}
 use Rattle.node_registry.specs.Registry.{node_at}
 use Rattle.node_registry.proofs.Numbered.{none_below, at_place, own_found}
 use Rattle.node_registry.proofs.table.NodeTable.get.Goals as goal

@@ -1,5 +1,5 @@
 use Rattle.std.proofs.Common.{◌≡◌, ap, sym, ◌∙◌, arith, slice_set}
-use Rattle.ordered_rows.proofs.Lengths.{length-replaced}
+use Rattle.rows.proofs.Lengths.{length-replaced}
 use Rattle.node_registry.specs.Registry.{Nodes, IsKept, with_node, node_rank}
 use Rattle.node_registry.proofs.Known.{known-replaced}
 use Rattle.node_registry.proofs.Numbered.{replaced_at, counts-replaced}

@@ -1,0 +1,61 @@
+// Check sums of replies.
+use sat_base::{Done, Offer, Place};
+use sat_machine::Reply;
+
+/// The sum over no replies.
+pub(crate) const EMPTY: u64 = 0xcbf2_9ce4_8422_2325;
+
+/// The sum with one more number, by a step of FNV-1a.
+pub(crate) fn mix(sum: u64, number: u64) -> u64 {
+    (sum ^ number).wrapping_mul(0x0100_0000_01b3)
+}
+
+fn place(sum: u64, place: &Place) -> u64 {
+    let sum = mix(sum, u64::from(place.index));
+    let sum = mix(sum, u64::from(place.node.0));
+    let sum = mix(sum, u64::from(place.addr));
+    mix(sum, u64::from(place.port))
+}
+
+fn offer(sum: u64, offer: &Offer) -> u64 {
+    let sum = mix(sum, u64::from(offer.customer.0));
+    let sum = mix(sum, offer.segment.0);
+    let sum = mix(sum, offer.serial.0);
+    let sum = mix(sum, u64::from(offer.action));
+    let sum = mix(sum, offer.piece_len);
+    let mut sum = mix(sum, offer.issued.seconds());
+    for one in offer.places.as_slice() {
+        sum = place(sum, one);
+    }
+    sum
+}
+
+fn done(sum: u64, done: &Done) -> u64 {
+    match done {
+        Done::NodeAdded { node } => mix(mix(sum, 1), u64::from(node.0)),
+        Done::CustomerAdded { customer } => mix(mix(sum, 2), u64::from(customer.0)),
+        Done::Offer(made) => offer(mix(sum, 3), made),
+        Done::Committed { segment } => mix(mix(sum, 4), segment.0),
+        Done::Deleted { segment } => mix(mix(sum, 5), segment.0),
+    }
+}
+
+/// The sum with one more reply.
+pub(crate) fn reply(sum: u64, reply: &Reply) -> u64 {
+    match reply {
+        Reply::Done(answer) => done(mix(sum, 1), answer),
+        Reply::Settled { amount } => mix(mix(sum, 2), *amount),
+        Reply::Again { amount } => mix(mix(sum, 3), *amount),
+        Reply::FreeSet => mix(sum, 4),
+        Reply::Stopping => mix(sum, 5),
+        Reply::Refused(refusal) => mix(mix(sum, 6), u64::from(refusal.number())),
+        Reply::StoreFault { before, after } => mix(mix(mix(sum, 7), *before), *after),
+        Reply::NoMemory => mix(sum, 8),
+        _ => mix(sum, 9),
+    }
+}
+
+/// Whether the machine did what it was asked.
+pub(crate) fn is_accepted(reply: &Reply) -> bool {
+    matches!(reply, Reply::Done(_) | Reply::Settled { .. })
+}

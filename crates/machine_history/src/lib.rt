@@ -1,0 +1,19 @@
+//! Laws of histories: of the calls that a satellite's machine was asked, one after another, with what was answered. A
+//! step that the store failed to keep, or for which memory ran out, is part of a history and changes nothing.
+//!
+//! - [`an_equal_request_acts_once`]: of two equal numbered requests of a caller, where the first was accepted, no
+//!   other number of the caller was accepted between them and nothing stopped the machine, the second has the first's
+//!   answer and changes nothing.
+//! - [`each_history_keeps_the_rules`]: the tables keep every rule, the order of their rows and the bounds of their
+//!   records throughout.
+//! - [`equal_versions_are_equal`]: a segment that is found at two moments in one version is the same record, so its
+//!   pieces are the same.
+//!
+//! Not promised here: that what a program answered is a history. That is for what runs the machine to say.
+#![tactic(auto)]
+
+mod laws;
+
+pub use laws::{
+    an_equal_request_acts_once, each_history_keeps_the_rules, equal_versions_are_equal,
+};

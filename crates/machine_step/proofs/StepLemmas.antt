@@ -1,0 +1,51 @@
+-- Each step keeps the rules of the tables, the order of their rows and the bounds of their records, and releases nothing that stands.
+use Rattle.std.proofs.Common.{◌≡◌, ℕ, ◌<◌, ◌^◌, Bool, true, false, refl, arith}
+use Rattle.std.specs.Prelude.{◌||◌, [], if◌then◌else◌}
+use Rattle.machine_calls.specs.declared.call.Call.{Call}
+use Rattle.machine_calls.specs.declared.call.Call.TheVariants as calls
+use Rattle.machine_calls.specs.declared.refusal.Refusal.TheVariants as refusals
+use Rattle.machine_calls.specs.declared.reply.Reply.TheVariants as replies
+use Rattle.machine_step.specs.Tables.{Tables, all_changed}
+use Rattle.machine_step.specs.Outcome.{refused}
+use Rattle.machine_step.specs.Containment.{with_releases, swept}
+use Rattle.machine_step.specs.Step.{risen, asking, operator, case_of, after, tables_after, is_stopping, IsWellFormed}
+use Rattle.machine_step.specs.Bounds.{IsValid}
+use Rattle.machine_step.proofs.Validity.{Follows, follows, unreleased}
+use Rattle.machine_step.proofs.Fits.{After, still}
+use Rattle.machine_step.proofs.Calls.AddNode.{fit_add_node}
+use Rattle.machine_step.proofs.Calls.AddCustomer.{fit_add_customer}
+use Rattle.machine_step.proofs.Calls.Begin.{fit_begin}
+use Rattle.machine_step.proofs.Calls.Commit.{fit_commit}
+use Rattle.machine_step.proofs.Calls.Get.{fit_get}
+use Rattle.machine_step.proofs.Calls.Delete.{fit_delete}
+use Rattle.machine_step.proofs.Calls.Settle.{fit_settle}
+use Rattle.machine_step.proofs.Calls.SetFree.{fit_set_free}
+
+-- the moment of a call is one
+risen_within : (t : Tables) (v : IsValid t) (now : ℕ) → now < 2 ^ 36 → risen t now < 2 ^ 36
+risen_within t v now lt = omega (arith, v.bounds.marks.time)
+
+pub fit_case : (t : Tables) (call : Call) → IsValid t → IsWellFormed t call → After t (case_of t call)
+fit_case t (calls.AddNode now request addr port free) v w = fit_add_node t v (asking t operator request now) (omega arith) (risen_within t v now w.timely) refl addr port free
+fit_case t (calls.AddCustomer now request) v w = fit_add_customer t v (asking t operator request now) (omega arith) (risen_within t v now w.timely) refl
+fit_case t (calls.Begin now customer request len words) v w = fit_begin t v (asking t customer request now) (omega arith) (risen_within t v now w.timely) len words
+fit_case t (calls.Commit now customer request segment indexes) v w = fit_commit t v (asking t customer request now) (omega arith) (risen_within t v now w.timely) segment indexes
+fit_case t (calls.Get now customer request segment) v w = fit_get t v (asking t customer request now) (omega arith) (risen_within t v now w.timely) segment
+fit_case t (calls.Delete now customer request segment) v w = fit_delete t v (asking t customer request now) (omega arith) (risen_within t v now w.timely) segment
+fit_case t (calls.Settle now node bytes) v w = fit_settle t v (risen t now) (omega arith) (risen_within t v now w.timely) node bytes
+fit_case t (calls.SetFree now node free) v w = fit_set_free t v (risen t now) (omega arith) (risen_within t v now w.timely) node free
+fit_case t calls.Stop v w = still t v replies.Stopping
+
+pub follows_step : (t : Tables) (call : Call) → IsValid t → IsWellFormed t call → Follows t (after t call)
+follows_step t call v w = go t.stopped
+  where
+    go : (b : Bool) → Follows t (tables_after t (if b then refused refusals.Stopped else swept t (case_of t call)))
+    go true = follows t (t.stopped || false) [] (still t v replies.Stopping)
+    go false = follows t ((all_changed t (with_releases t (case_of t call).changes)).stopped || is_stopping (case_of t call).reply) (case_of t call).changes (fit_case t call v w)
+
+pub valid_step : (t : Tables) (call : Call) → IsValid t → IsWellFormed t call → IsValid (after t call)
+valid_step t call v w = (follows_step t call v w).valid
+
+-- what comes of a call releases nothing, as long as nothing is contained
+pub swept_case : (t : Tables) (call : Call) → IsValid t → IsWellFormed t call → with_releases t (case_of t call).changes ≡ (case_of t call).changes
+swept_case t call v w = unreleased t.marks.segment t (case_of t call).changes (fit_case t call v w).steady

@@ -1,0 +1,9 @@
+pub mod Search
+pub mod Rising
+pub mod Found
+pub mod Lengths
+pub mod Items
+pub mod EntryLemmas
+pub mod RisingLemmas
+pub mod OrderLemmas
+pub mod BlockLemmas

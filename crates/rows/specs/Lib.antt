@@ -1,0 +1,5 @@
+pub mod Rows
+pub mod Place
+pub mod Slots
+pub mod Entries
+pub mod Blocks

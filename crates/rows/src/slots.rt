@@ -1,0 +1,244 @@
+ghost use Rattle.std.specs.Prelude.{◌≡◌, ℕ, true, false, length, option_copied, IfOk, OnOk, OnErr, IsSome, is_ok, if◌then◌else◌, None, Some};
+ghost use Rattle.std.specs.Ordering.{nat_cmp};
+ghost use Rattle.std.specs.BTreeMap.{insert_entry, get, keys, is_at};
+ghost use Rattle.std.specs.Map.{remove_entry};
+ghost use Rattle.rows.specs.Rows.{row_at, without, IsRising};
+ghost use Rattle.rows.specs.Entries.{flat, taken};
+ghost use Rattle.rows.specs.Slots.{no_rows, has_slot, with_row, with_slot, without_slot, released};
+
+use sat_base::{NoMemory, Ranked};
+use std::alloc::Global;
+use std::collections::BTreeMap;
+use std::marker::Model;
+
+/// Rows in the order of their ranks, at most one of a rank, and slots for rows to come.
+///
+/// Contracts see the list of the rows, and the ranks that have a slot, among them those of the rows. Each call
+/// costs the logarithm of the slots.
+#[derive(Drop)]
+pub struct SlottedRows<R: Ranked> {
+    map: BTreeMap<u128, Option<R>>,
+    count: usize,
+}
+
+impl<R: Ranked> Model for SlottedRows<R> {
+    ghost use Rattle.rows.specs.Slots.{Slots};
+
+    ghost Value = { Slots R };
+
+    ghost use Rattle.rows.specs.Entries.{slots_of, Fits};
+
+    ghost view = { λ t. slots_of t.map.entries };
+
+    ghost invariant = { λ t. Fits R.rank t.map.entries t.count };
+}
+
+impl<R: Ranked> SlottedRows<R> {
+    /// No rows, and no slots.
+    pub fn new(alloc: Global) -> Self
+        ensures { result ≡ no_rows }
+    {
+        SlottedRows {
+            map: BTreeMap::new(alloc),
+            count: 0,
+        }
+    }
+
+    /// These rows, which stand in the order of their ranks.
+    pub fn of(alloc: Global, rows: Vec<R>) -> Result<Self, NoMemory>
+        requires { IsRising R.rank rows.items }
+        ensures { IfOk result (λ slots. slots.rows ≡ rows.items) }
+    {
+        let mut slots = SlottedRows::new(alloc);
+        for row in rows {
+            slots.place(row.rank())?;
+            slots.put(row);
+        }
+        Ok(slots)
+    }
+
+    /// How many rows there are.
+    pub fn len(&self) -> usize
+        ensures rows { result ≡ length self.now.rows }
+        ensures rising { IsRising R.rank self.now.rows }
+    {
+        self.count
+    }
+
+    /// The row of a rank.
+    pub fn get(&self, rank: u128) -> Option<&R>
+        ensures { option_copied result ≡ row_at R.rank self.now.rows rank }
+    {
+        row_of(self.map.get(&rank))
+    }
+
+    /// Makes a slot for a rank, if it has none. Want of memory leaves rows and slots as they were.
+    pub fn place(&mut self, rank: u128) -> Result<(), NoMemory>
+        ensures rows { self.new.rows ≡ self.old.rows }
+        ensures placed { OnOk result (has_slot self.new rank ≡ true) }
+        ensures others { (k : ℕ) → has_slot self.old k ≡ true → has_slot self.new k ≡ true }
+        ensures slots { OnOk result (self.new.slots ≡ with_slot self.old.slots rank) }
+        // A slot that this made is gone again after a release.
+        ensures undone { OnOk result (has_slot self.old rank ≡ false → released self.new rank ≡ self.old) }
+        ensures err { OnErr result (self.new ≡ self.old) }
+    {
+        if self.map.contains_key(&rank) {
+            return Ok(());
+        }
+        add_slot(&mut self.map, rank)
+    }
+
+    /// Puts a row into its slot, in place of the row of its rank if there is one. It takes no memory.
+    pub fn put(&mut self, row: R)
+        requires { has_slot self.old (R.rank row) ≡ true }
+        ensures rows { self.new.rows ≡ with_row R.rank self.old.rows row }
+        ensures slots { self.new.slots ≡ self.old.slots }
+    {
+        let key = row.rank();
+        let _slots = self.map.len();
+        self.count += 1;
+        self.count -= fill_slot(&mut self.map, key, row);
+    }
+
+    /// Removes the row of a rank, if there is one, and the slot with it. It takes no memory.
+    pub fn remove(&mut self, rank: u128)
+        ensures rows { self.new.rows ≡ without R.rank self.old.rows rank }
+        ensures slots { self.new.slots ≡ without_slot self.old.slots rank }
+        ensures gone { has_slot self.new rank ≡ false }
+        ensures others { (k : ℕ) → has_slot self.old k ≡ true → (k ≡ rank → ⊥) → has_slot self.new k ≡ true }
+    {
+        self.count -= drop_entry(&mut self.map, rank);
+    }
+
+    /// Removes the slot of a rank, where it has no row. It takes no memory.
+    pub fn release(&mut self, rank: u128)
+        ensures rows { self.new.rows ≡ self.old.rows }
+        ensures gone { row_at R.rank self.old.rows rank ≡ None → has_slot self.new rank ≡ false }
+        ensures others { (k : ℕ) → has_slot self.old k ≡ true → (k ≡ rank → ⊥) → has_slot self.new k ≡ true }
+        ensures released { row_at R.rank self.old.rows rank ≡ None → self.new ≡ released self.old rank }
+        ensures kept { IsSome (row_at R.rank self.old.rows rank) → self.new ≡ self.old }
+    {
+        if self.get(rank).is_none() {
+            let _none = drop_entry(&mut self.map, rank);
+        }
+    }
+}
+
+// The row at a slot.
+fn row_of<R>(at: Option<&Option<R>>) -> Option<&R>
+    ensures { option_copied result ≡ flat (option_copied at.entry) }
+{
+    match at {
+        Some(Some(row)) => Some(row),
+        _ => None,
+    }
+}
+
+// How many rows were at a slot.
+fn count_of<R: Drop>(was: Option<Option<R>>) -> usize
+    ensures { result ≡ taken was }
+{
+    match was {
+        Some(Some(_)) => 1,
+        _ => 0,
+    }
+}
+
+// A slot of a rank that has none yet.
+fn add_slot<R: Drop>(map: &mut BTreeMap<u128, Option<R>>, rank: u128) -> Result<(), NoMemory>
+    requires { get nat_cmp map.old rank ≡ None }
+    ensures entries { map.new.entries ≡ (if is_ok result then insert_entry nat_cmp map.old.entries rank None else map.old.entries) }
+{
+    match map.insert(rank, None) {
+        Ok(was) => {
+            let _none = count_of(was);
+            Ok(())
+        }
+        Err(_) => Err(NoMemory),
+    }
+}
+
+// A row in its slot. Tells how many rows it takes the place of.
+fn fill_slot<R: Drop>(map: &mut BTreeMap<u128, Option<R>>, rank: u128, row: R) -> usize
+    requires { IsSome (get nat_cmp map.old rank) }
+    ensures entries { map.new.entries ≡ insert_entry nat_cmp map.old.entries rank (Some row) }
+    ensures keys { keys map.new ≡ keys map.old }
+    ensures taken { result ≡ taken (get nat_cmp map.old rank) }
+{
+    match map.insert(rank, Some(row)) {
+        Ok(was) => count_of(was),
+        Err(_) => unreachable!(),
+    }
+}
+
+// Takes a slot away. Tells how many rows it had.
+fn drop_entry<R: Drop>(map: &mut BTreeMap<u128, Option<R>>, rank: u128) -> usize
+    ensures entries { map.new.entries ≡ remove_entry (is_at (nat_cmp rank)) map.old.entries }
+    ensures taken { result ≡ taken (get nat_cmp map.old rank) }
+{
+    count_of(map.remove(&rank))
+}
+
+#[cfg(test)]
+mod tests {
+    use super::*;
+    use std::test::Fail;
+
+    #[derive(Clone, Copy, Debug, PartialEq, Eq)]
+    struct Mark {
+        place: u128,
+        value: u8,
+    }
+
+    impl Ranked for Mark {
+        ghost rank = { λ m. m.place };
+
+        fn rank(&self) -> u128 {
+            self.place
+        }
+    }
+
+    fn put(marks: &mut SlottedRows<Mark>, place: u128, value: u8) -> Result<(), NoMemory> {
+        marks.place(place)?;
+        marks.put(Mark { place, value });
+        Ok(())
+    }
+
+    fn value(marks: &SlottedRows<Mark>, place: u128) -> Option<u8> {
+        marks.get(place).map(|mark| mark.value)
+    }
+
+    #[test]
+    fn keeps_rows_and_slots(rt: HostRuntime) -> Result<(), Fail> {
+        let first = vec![in rt.alloc();
+            Mark {
+                place: 4,
+                value: 40
+            },
+            Mark {
+                place: 1 << 100,
+                value: 99
+            },
+        ]?;
+        if first[0].place != 4 || first[1].place != 1 << 100 {
+            return Ok(());
+        }
+        let mut marks = SlottedRows::new(rt.alloc());
+        for mark in first {
+            put(&mut marks, mark.place, mark.value)?;
+        }
+        put(&mut marks, 7, 70)?;
+        put(&mut marks, 4, 44)?;
+        marks.place(9)?;
+        assert_eq!(rt; marks.len(), 3);
+        assert_eq!(rt; (value(&marks, 4), value(&marks, 9)), (Some(44), None));
+        marks.release(9);
+        marks.release(7);
+        assert_eq!(rt; (marks.len(), value(&marks, 7)), (3, Some(70)));
+        marks.remove(7);
+        marks.remove(8);
+        assert_eq!(rt; (marks.len(), value(&marks, 7)), (2, None));
+        assert_eq!(rt; value(&marks, 1 << 100), Some(99));
+        Ok(())
+    }
+}

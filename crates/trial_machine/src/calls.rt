@@ -1,0 +1,155 @@
+// Calls, one a line: the name, the moment, and then the fields in their order.
+ghost use Rattle.std.specs.Prelude.{◌≡◌, length, IfOk};
+ghost use Rattle.machine_step.specs.Step.{IsFormed};
+
+use crate::orders::order;
+use machine_calls::Call;
+use order_limits::Keys;
+use sat_base::{CustomerId, Items, Moment, NodeId, SegId, Words64};
+use std::alloc::Global;
+use trial_lines::{Fields, LineErr};
+
+/// The call that a line says. Orders are made with the store's keys.
+pub fn call(alloc: Global, keys: &Keys, fields: &mut Fields<'_>) -> Result<Call, LineErr>
+    ensures { IfOk result IsFormed }
+{
+    let call = match fields.word()? {
+        "add-node" => add_node(fields)?,
+        "add-customer" => add_customer(fields)?,
+        "begin" => begin(alloc, fields)?,
+        "commit" => commit(alloc, fields)?,
+        "get" => get(fields)?,
+        "delete" => delete(fields)?,
+        "settle" => settle(alloc, keys, fields)?,
+        "set-free" => set_free(fields)?,
+        "stop" => Call::Stop,
+        _ => return Err(LineErr::Bad),
+    };
+    fields.end()?;
+    Ok(call)
+}
+
+fn moment(fields: &mut Fields<'_>) -> Result<Moment, LineErr> {
+    Ok(Moment::of(fields.number()?))
+}
+
+// NOW REQUEST ADDR PORT FREE.
+fn add_node(fields: &mut Fields<'_>) -> Result<Call, LineErr>
+    ensures { IfOk result IsFormed }
+{
+    Ok(Call::AddNode {
+        now: moment(fields)?,
+        request: fields.number()?,
+        addr: fields.number()?,
+        port: fields.number()?,
+        free: fields.number()?,
+    })
+}
+
+// NOW REQUEST.
+fn add_customer(fields: &mut Fields<'_>) -> Result<Call, LineErr>
+    ensures { IfOk result IsFormed }
+{
+    Ok(Call::AddCustomer {
+        now: moment(fields)?,
+        request: fields.number()?,
+    })
+}
+
+// NOW CUSTOMER REQUEST LEN WORDS.
+fn begin(alloc: Global, fields: &mut Fields<'_>) -> Result<Call, LineErr>
+    ensures { IfOk result IsFormed }
+{
+    Ok(Call::Begin {
+        now: moment(fields)?,
+        customer: CustomerId(fields.number()?),
+        request: fields.number()?,
+        len: fields.number()?,
+        words: words(alloc, fields)?,
+    })
+}
+
+// 128 words, by a generator from a start, `from START`, or as a list of numbers that come round again.
+fn words(alloc: Global, fields: &mut Fields<'_>) -> Result<Words64, LineErr>
+    ensures { IfOk result (λ words. length words ≡ 128) }
+{
+    let mut words = vec![in alloc; 0u64; 128]?;
+    let mut list = *fields;
+    if fields.word()? == "from" {
+        let mut state: u64 = fields.number()?;
+        for word in words.as_mut_slice() {
+            state = state
+                .wrapping_mul(6_364_136_223_846_793_005)
+                .wrapping_add(1_442_695_040_888_963_407);
+            *word = state ^ (state >> 33);
+        }
+    } else {
+        let numbers = list.numbers(alloc)?;
+        if numbers.is_empty() {
+            return Err(LineErr::Bad);
+        }
+        for (word, number) in words.as_mut_slice().iter_mut().zip(numbers.iter().cycle()) {
+            *word = *number;
+        }
+    }
+    Ok(Items::of(words))
+}
+
+// NOW CUSTOMER REQUEST SEGMENT INDEXES.
+fn commit(alloc: Global, fields: &mut Fields<'_>) -> Result<Call, LineErr>
+    ensures { IfOk result IsFormed }
+{
+    Ok(Call::Commit {
+        now: moment(fields)?,
+        customer: CustomerId(fields.number()?),
+        request: fields.number()?,
+        segment: SegId(fields.number()?),
+        indexes: Items::of(fields.numbers(alloc)?),
+    })
+}
+
+// NOW CUSTOMER REQUEST SEGMENT.
+fn get(fields: &mut Fields<'_>) -> Result<Call, LineErr>
+    ensures { IfOk result IsFormed }
+{
+    Ok(Call::Get {
+        now: moment(fields)?,
+        customer: CustomerId(fields.number()?),
+        request: fields.number()?,
+        segment: SegId(fields.number()?),
+    })
+}
+
+// NOW CUSTOMER REQUEST SEGMENT.
+fn delete(fields: &mut Fields<'_>) -> Result<Call, LineErr>
+    ensures { IfOk result IsFormed }
+{
+    Ok(Call::Delete {
+        now: moment(fields)?,
+        customer: CustomerId(fields.number()?),
+        request: fields.number()?,
+        segment: SegId(fields.number()?),
+    })
+}
+
+// NOW NODE ORDER.
+fn settle(alloc: Global, keys: &Keys, fields: &mut Fields<'_>) -> Result<Call, LineErr>
+    ensures { IfOk result IsFormed }
+{
+    Ok(Call::Settle {
+        now: moment(fields)?,
+        node: NodeId(fields.number()?),
+        bytes: Items::of(order(alloc, keys, fields)?),
+    })
+}
+
+// NOW NODE FREE.
+fn set_free(fields: &mut Fields<'_>) -> Result<Call, LineErr>
+    ensures { IfOk result IsFormed }
+{
+    Ok(Call::SetFree {
+        now: moment(fields)?,
+        node: NodeId(fields.number()?),
+        free: fields.number()?,
+    })
+}

@@ -1,0 +1,43 @@
+//! A machine that is tried by lines. Each line of the input is answered by one of the output.
+//!
+//! - `store NAME` begins a store, and its records follow, a line each: the kind's name and the fields in their order.
+//!   `like OTHER` takes the records of an earlier store; `clear KIND` takes those of a kind away; `at PLACE KIND ..` puts
+//!   a record in place of the one that stands there, counted from 0; and `rising COUNT KIND ..` puts a record so often,
+//!   its first number one greater each time. Each is answered by `noted`.
+//! - `open` makes a machine of them: `open`, or `unfit` where they are out of order or of bounds, or the least rule that
+//!   they break with the kind and the id of the first record that breaks it.
+//! - Each further line is a call with its fields, which is answered by its reply. `forgo CALL ..` prepares the call's step
+//!   and gives it up.
+//! - Empty lines and those that begin with `#` are answered by themselves, and all others by `bad-line`.
+//!
+//! Numbers are decimal, `-` is an empty list, and a list's items stand apart by commas.
+//!
+//! The machine's cases are its stored input and output. Nothing is promised beyond the contracts of the machine.
+#![tactic(auto)]
+
+mod calls;
+mod orders;
+mod records;
+mod refusals;
+mod segments;
+mod session;
+mod telling;
+
+use anyhow::Result;
+use session::Session;
+use std::io;
+use std::io::{BufWriter, Write};
+
+fn main(rt: HostRuntime) -> Result<()> {
+    let alloc = rt.alloc();
+    let input = io::read_to_string(alloc, rt.reader())?;
+    let lines: Vec<&str> = input.lines().collect(alloc)?;
+    let mut session = Session::new(alloc);
+    let mut output = BufWriter::new(alloc, io::writer(&rt))?;
+    for line in &lines {
+        let answer = session.answer(&lines, line)?;
+        writeln!(output, "{answer}")?;
+    }
+    output.flush()?;
+    Ok(())
+}

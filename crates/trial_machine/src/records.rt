@@ -1,0 +1,208 @@
+// The records of a store, one a line: the name of the kind, and then the fields in their order.
+use crate::segments::segment;
+use machine_calls::Parts0;
+use node_registry::{Node, Status};
+use order_limits::Action;
+use sat_base::{
+    Caps, Customer, CustomerId, Hour, Kept, Marks, Moment, Month, NodeId, Rates, Scheme, Serial,
+    Settings, Tariff,
+};
+use segment_core::Segment;
+use settlement::SettledRow;
+use std::alloc::Global;
+use trial_lines::{Fields, LineErr, asked, done};
+
+/// A record of any kind.
+#[derive(Drop)]
+pub enum Record {
+    Settings(Settings),
+    Marks(Marks),
+    Node(Node),
+    Customer(Customer),
+    Segment(Segment),
+    Settled(SettledRow),
+    Kept(Kept),
+    Tariff(Tariff),
+}
+
+/// The record that a line says.
+pub fn record_of(alloc: Global, fields: &mut Fields<'_>) -> Result<Record, LineErr> {
+    let record = match fields.word()? {
+        "settings" => Record::Settings(settings(fields)?),
+        "marks" => Record::Marks(marks(fields)?),
+        "node" => Record::Node(node(fields)?),
+        "customer" => Record::Customer(customer(fields)?),
+        "segment" => Record::Segment(segment(alloc, fields)?),
+        "settled" => Record::Settled(settled(fields)?),
+        "kept" => Record::Kept(kept(alloc, fields)?),
+        "tariff" => Record::Tariff(tariff(fields)?),
+        _ => return Err(LineErr::Bad),
+    };
+    fields.end()?;
+    Ok(record)
+}
+
+// A row comes behind the others, or in place of the one that stands there.
+fn put<R: Drop>(rows: &mut Vec<R>, place: Option<usize>, row: R) -> Result<(), LineErr> {
+    match place {
+        None => Ok(rows.push(row)?),
+        Some(place) => match rows.get_mut(place) {
+            Some(old) => {
+                *old = row;
+                Ok(())
+            }
+            None => Err(LineErr::Bad),
+        },
+    }
+}
+
+/// A record comes behind the others of its kind, or in place of the one that stands there.
+pub fn put_record(parts: &mut Parts0, place: Option<usize>, record: Record) -> Result<(), LineErr> {
+    match record {
+        Record::Settings(row) => put(&mut parts.settings, place, row),
+        Record::Marks(row) => put(&mut parts.marks, place, row),
+        Record::Node(row) => put(&mut parts.nodes, place, row),
+        Record::Customer(row) => put(&mut parts.customers, place, row),
+        Record::Segment(row) => put(&mut parts.segments, place, row),
+        Record::Settled(row) => put(&mut parts.settled, place, row),
+        Record::Kept(row) => put(&mut parts.kept, place, row),
+        Record::Tariff(row) => put(&mut parts.tariffs, place, row),
+    }
+}
+
+/// Takes all records of a kind away.
+pub fn clear(parts: &mut Parts0, kind: &str) -> Result<(), LineErr> {
+    match kind {
+        "settings" => parts.settings.clear(),
+        "marks" => parts.marks.clear(),
+        "node" => parts.nodes.clear(),
+        "customer" => parts.customers.clear(),
+        "segment" => parts.segments.clear(),
+        "settled" => parts.settled.clear(),
+        "kept" => parts.kept.clear(),
+        "tariff" => parts.tariffs.clear(),
+        _ => return Err(LineErr::Bad),
+    }
+    Ok(())
+}
+
+// SECRET K M O N SHARE VET FRESH, the caps, FIRST-MONTH.
+fn settings(fields: &mut Fields<'_>) -> Result<Settings, LineErr> {
+    let mut secret = [0; 32];
+    if hex::decode_to_slice(fields.word()?, &mut secret).is_err() {
+        return Err(LineErr::Bad);
+    }
+    Ok(Settings {
+        secret,
+        scheme: scheme(fields)?,
+        vet: fields.number()?,
+        fresh: fields.number()?,
+        caps: caps(fields)?,
+        first_month: Month(fields.number()?),
+    })
+}
+
+fn scheme(fields: &mut Fields<'_>) -> Result<Scheme, LineErr> {
+    let k = fields.number()?;
+    let m = fields.number()?;
+    let o = fields.number()?;
+    let n = fields.number()?;
+    let share = fields.number()?;
+    Scheme::check(k, m, o, n, share).map_err(|_| LineErr::Bad)
+}
+
+// NODES CUSTOMERS SEGMENTS SETTLED TALLIES STATEMENTS.
+fn caps(fields: &mut Fields<'_>) -> Result<Caps, LineErr> {
+    Ok(Caps {
+        nodes: fields.number()?,
+        customers: fields.number()?,
+        segments: fields.number()?,
+        settled: fields.number()?,
+        tallies: fields.number()?,
+        statements: fields.number()?,
+    })
+}
+
+// TIME SEGMENT SERIAL PLAN MONTH HOUR.
+fn marks(fields: &mut Fields<'_>) -> Result<Marks, LineErr> {
+    Ok(Marks {
+        time: Moment::of(fields.number()?),
+        segment: fields.number()?,
+        serial: fields.number()?,
+        plan: fields.number()?,
+        month: Month(fields.number()?),
+        hour: Hour(fields.number()?),
+    })
+}
+
+// ID ADDR PORT FREE JOINED ALPHA BETA PASSES STATUS.
+fn node(fields: &mut Fields<'_>) -> Result<Node, LineErr> {
+    Ok(Node {
+        id: NodeId(fields.number()?),
+        addr: fields.number()?,
+        port: fields.number()?,
+        free: fields.number()?,
+        joined: Moment::of(fields.number()?),
+        alpha: fields.number()?,
+        beta: fields.number()?,
+        passes: fields.number()?,
+        status: status(fields)?,
+    })
+}
+
+fn status(fields: &mut Fields<'_>) -> Result<Status, LineErr> {
+    match fields.word()? {
+        "active" => Ok(Status::Active),
+        "disqualified" => Ok(Status::Disqualified),
+        "exiting" => Ok(Status::Exiting),
+        "exited" => Ok(Status::Exited),
+        _ => Err(LineErr::Bad),
+    }
+}
+
+// ID ADDED.
+fn customer(fields: &mut Fields<'_>) -> Result<Customer, LineErr> {
+    Ok(Customer {
+        id: CustomerId(fields.number()?),
+        added: Moment::of(fields.number()?),
+    })
+}
+
+/// The action of a byte.
+pub fn action(fields: &mut Fields<'_>) -> Result<Action, LineErr> {
+    Action::of(fields.number()?).ok_or(LineErr::Bad)
+}
+
+// SERIAL NODE ACTION AMOUNT AT.
+fn settled(fields: &mut Fields<'_>) -> Result<SettledRow, LineErr> {
+    Ok(SettledRow {
+        serial: Serial(fields.number()?),
+        node: NodeId(fields.number()?),
+        action: action(fields)?,
+        amount: fields.number()?,
+        at: Moment::of(fields.number()?),
+    })
+}
+
+// CALLER NUMBER, what was asked, what was done.
+fn kept(alloc: Global, fields: &mut Fields<'_>) -> Result<Kept, LineErr> {
+    Ok(Kept {
+        caller: CustomerId(fields.number()?),
+        number: fields.number()?,
+        asked: asked(alloc, fields)?,
+        done: done(alloc, fields)?,
+    })
+}
+
+// FROM GET AUDIT REPAIR STORAGE.
+fn tariff(fields: &mut Fields<'_>) -> Result<Tariff, LineErr> {
+    Ok(Tariff {
+        from: Month(fields.number()?),
+        rates: Rates {
+            get: fields.number()?,
+            audit: fields.number()?,
+            repair: fields.number()?,
+            storage: fields.number()?,
+        },
+    })
+}

@@ -1,0 +1,78 @@
+// Segments, whose pieces are given as `INDEX:NODE`, apart by commas.
+ghost use Rattle.std.specs.Prelude.{◌≡◌, ◌-◌, ◌<◌, length, slice_index_or, IsTrue, IfOk};
+ghost use Rattle.sat_base.specs.declared.records.At.{At};
+ghost use Rattle.segment_core.specs.Places.{IsByIndex};
+
+use sat_base::{At, CustomerId, Items, NodeId, SegId};
+use segment_core::Segment;
+use std::alloc::Global;
+use trial_lines::{Fields, LineErr};
+
+// Whether a piece has an index above that of the one before it, if there is one.
+fn is_above(pieces: &[At], i: usize) -> bool
+    requires { i < length pieces.now }
+    ensures { IsTrue result → (d : At) → 0 < i → (slice_index_or pieces.now (i - 1) d).index < (slice_index_or pieces.now i d).index }
+{
+    if i == 0 {
+        return true;
+    }
+    let before = pieces[i - 1];
+    let here = pieces[i];
+    before.index < here.index
+}
+
+// Whether the indexes rise.
+fn is_by_index(pieces: &[At]) -> bool
+    ensures { IsTrue result → IsByIndex pieces.now }
+{
+    for i in 0..pieces.len() {
+        if !is_above(pieces, i) {
+            return false;
+        }
+    }
+    true
+}
+
+fn at(fields: &mut Fields<'_>) -> Result<At, LineErr> {
+    let mut parts = fields.parts()?;
+    let at = At {
+        index: parts.number()?,
+        node: NodeId(parts.number()?),
+    };
+    parts.end()?;
+    Ok(at)
+}
+
+fn pieces(alloc: Global, fields: &mut Fields<'_>) -> Result<Vec<At>, LineErr>
+    ensures { IfOk result (λ pieces. IsByIndex pieces.items) }
+{
+    let mut list = fields.list()?;
+    let mut pieces = Vec::new(alloc);
+    for _ in 0..u64::MAX {
+        if list.is_done() {
+            break;
+        }
+        pieces.push(at(&mut list)?)?;
+    }
+    if is_by_index(&pieces) {
+        Ok(pieces)
+    } else {
+        Err(LineErr::Bad)
+    }
+}
+
+/// ID CUSTOMER LEN VERSION PIECES. A list in which indexes don't rise hasn't the form.
+pub fn segment(alloc: Global, fields: &mut Fields<'_>) -> Result<Segment, LineErr> {
+    let id = SegId(fields.number()?);
+    let customer = CustomerId(fields.number()?);
+    let len = fields.number()?;
+    let version = fields.number()?;
+    let pieces = Items::of(pieces(alloc, fields)?);
+    Ok(Segment {
+        id,
+        customer,
+        len,
+        version,
+        pieces,
+    })
+}

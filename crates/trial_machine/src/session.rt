@@ -1,0 +1,157 @@
+// What is tried: the records of a store that are noted, and then its machine.
+use crate::calls::call;
+use crate::records::{clear, put_record, record_of};
+use crate::telling::{told, told_open};
+use machine_calls::Parts0;
+use order_limits::Keys;
+use sat_base::NoMemory;
+use std::alloc::Global;
+use std::mem;
+use trial_core::{OpenErr, Trial};
+use trial_lines::{Fields, LineErr};
+
+/// A store that is being made, or its machine.
+#[derive(Drop)]
+pub struct Session {
+    alloc: Global,
+    parts: Parts0,
+    keys: Keys,
+    trial: Option<Trial>,
+}
+
+// The records that begin a store stand below this line.
+fn place_of(lines: &[&str], name: &str) -> Option<usize> {
+    lines
+        .iter()
+        .position(|line| line.strip_prefix("store ") == Some(name))
+}
+
+impl Session {
+    /// No records.
+    pub fn new(alloc: Global) -> Self {
+        Session {
+            alloc,
+            parts: Parts0::new(alloc),
+            keys: Keys::new([0; 32]),
+            trial: None,
+        }
+    }
+
+    /// The answer to a line, among all lines.
+    pub fn answer(&mut self, lines: &[&str], line: &str) -> Result<String, NoMemory> {
+        if line.is_empty() || line.starts_with('#') {
+            return Ok(String::from_str(self.alloc, line)?);
+        }
+        match self.taken(lines, line) {
+            Ok(answer) => Ok(answer),
+            Err(LineErr::Bad) => Ok(String::from_str(self.alloc, "bad-line")?),
+            Err(LineErr::NoMemory) => Err(NoMemory),
+        }
+    }
+
+    fn taken(&mut self, lines: &[&str], line: &str) -> Result<String, LineErr> {
+        let mut fields = Fields::of_line(line, 0);
+        let word = fields.word()?;
+        if word == "store" {
+            self.parts = Parts0::new(self.alloc);
+            self.trial = None;
+            return Ok(String::from_str(self.alloc, line)?);
+        }
+        if self.trial.is_some() {
+            return self.asked(word, line, fields);
+        }
+        if word == "open" {
+            fields.end()?;
+            return self.open();
+        }
+        self.note(lines, word, line, fields)?;
+        Ok(String::from_str(self.alloc, "noted")?)
+    }
+
+    // A machine of the records that were noted.
+    fn open(&mut self) -> Result<String, LineErr> {
+        let parts = mem::replace(&mut self.parts, Parts0::new(self.alloc));
+        if let Some(settings) = parts.settings.first() {
+            self.keys = Keys::new(settings.secret);
+        }
+        match Trial::open(self.alloc, parts) {
+            Ok(trial) => {
+                self.trial = Some(trial);
+                Ok(String::from_str(self.alloc, "open")?)
+            }
+            Err(err) => Ok(told_open(self.alloc, &err)?),
+        }
+    }
+
+    // Notes records.
+    fn note(
+        &mut self,
+        lines: &[&str],
+        word: &str,
+        line: &str,
+        mut fields: Fields<'_>,
+    ) -> Result<(), LineErr> {
+        match word {
+            "like" => self.like(lines, fields.rest()),
+            "clear" => {
+                let kind = fields.word()?;
+                fields.end()?;
+                clear(&mut self.parts, kind)
+            }
+            "at" => {
+                let place: u64 = fields.number()?;
+                let record = record_of(self.alloc, &mut fields)?;
+                put_record(&mut self.parts, Some(place as usize), record)
+            }
+            "rising" => {
+                let count: u64 = fields.number()?;
+                self.rising(count, fields.rest())
+            }
+            _ => self.put(line, 0),
+        }
+    }
+
+    // Notes the record that a line says, whose first number is this much greater.
+    fn put(&mut self, line: &str, more: u64) -> Result<(), LineErr> {
+        let record = record_of(self.alloc, &mut Fields::of_line(line, more))?;
+        put_record(&mut self.parts, None, record)
+    }
+
+    fn rising(&mut self, count: u64, line: &str) -> Result<(), LineErr> {
+        for more in 0..count {
+            self.put(line, more)?;
+        }
+        Ok(())
+    }
+
+    // Notes the records of an earlier store, up to a line that is no record.
+    fn like(&mut self, lines: &[&str], name: &str) -> Result<(), LineErr> {
+        let Some(place) = place_of(lines, name) else {
+            return Err(LineErr::Bad);
+        };
+        for line in lines.iter().skip(place).skip(1) {
+            match self.put(line, 0) {
+                Ok(()) => {}
+                Err(LineErr::Bad) => break,
+                Err(LineErr::NoMemory) => return Err(LineErr::NoMemory),
+            }
+        }
+        Ok(())
+    }
+
+    // Asks the machine, or prepares a call and gives it up.
+    fn asked(&mut self, word: &str, line: &str, fields: Fields<'_>) -> Result<String, LineErr> {
+        let is_forgone = word == "forgo";
+        let line = if is_forgone { fields.rest() } else { line };
+        let call = call(self.alloc, &self.keys, &mut Fields::of_line(line, 0))?;
+        let Some(trial) = &mut self.trial else {
+            return Err(LineErr::Bad);
+        };
+        if is_forgone {
+            trial.forgo(&call)?;
+            return Ok(String::from_str(self.alloc, "forgone")?);
+        }
+        let reply = trial.ask(&call)?;
+        Ok(told(self.alloc, &reply)?)
+    }
+}
