@@ -9,8 +9,13 @@
 //! - `rows PATH` prints the rows of a file, a line each.
 //! - `fill PATH` commits rows until a commit fails, as on a full disk, and prints how many were acknowledged and how
 //!   many it can load then.
+//! - `store PATH COUNT` makes a store of that many settled orders, and `book PATH` prints how long it takes to open its
+//!   file and a book over it.
+//! - `settle PATH SERIAL COUNT` prints how long a book takes for each of so many orders, whose serials begin there, and
+//!   `commit PATH SERIAL COUNT` how long the keeper alone takes for the rows of each.
 #![tactic(auto)]
 
+mod books;
 mod files;
 mod filling;
 mod made;
@@ -59,12 +64,24 @@ fn main(rt: HostRuntime) -> Result<()> {
     let Some(path) = words.next() else {
         bail!("which file?");
     };
-    match (mode.as_str(), words.next()) {
+    let more = (words.next(), words.next());
+    if let (Some(first), Some(count)) = &more {
+        let first = first.as_str().parse::<u64>()?;
+        let count = count.as_str().parse::<u64>()?;
+        return match mode.as_str() {
+            "settle" => books::time_settles(&rt, path.as_str(), first, count),
+            "commit" => books::time_commits(&rt, path.as_str(), first, count),
+            _ => bail!("settle or commit PATH SERIAL COUNT"),
+        };
+    }
+    match (mode.as_str(), more.0) {
         ("rows", None) => print_rows(&rt, path.as_str()),
         ("open", None) => timing::open(&rt, path.as_str()),
         ("load", None) => timing::load(&rt, path.as_str()),
         ("fill", None) => filling::fill(&rt, path.as_str()),
+        ("book", None) => books::time_opening(&rt, path.as_str()),
+        ("store", Some(count)) => books::fill(&rt, path.as_str(), count.as_str().parse::<u64>()?),
         ("time", Some(count)) => timing::all(&rt, path.as_str(), count.as_str().parse::<u64>()?),
-        _ => bail!("time PATH COUNT, or open, load, rows or fill PATH"),
+        _ => bail!("time or store PATH COUNT, or open, load, rows, fill or book PATH"),
     }
 }

@@ -8,9 +8,8 @@ use Rattle.std.specs.Char.{is_ascii_digit}
 use Rattle.std.specs.Int.{IsInRange}
 use Rattle.std.specs.Str.Parse.{digits_value}
 use Rattle.http_edge.specs.Address.{is_plain, octet_of, last_of, joined, next_of, address_of, IsAddress}
-use Rattle.http_edge.specs.Numbers.{IsNumber, cut_of, number_up_to}
-use Rattle.http_edge.proofs.NumberLemmas.{digit_in}
-use Rattle.http_edge.proofs.PathLemmas.{then_some, map_some, test_some, cut_front, cut_back, number_is, number_found}
+use Rattle.sat_base.specs.Text.{IsNumber, cut_of, number_up_to}
+use Rattle.sat_base.proofs.TextLemmas.{digit_in, then_some, map_some, test_some, cut_front, cut_back, number_is, number_found}
 
 abbrev AreDigits : List ℕ → Type 0
 AreDigits ds = (i : ℕ) → i < length ds → IsInRange 48 57 (get_or ds i 0)

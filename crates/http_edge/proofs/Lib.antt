@@ -6,7 +6,6 @@ mod HeadLaws
 mod HeadLemmas
 mod HeaderLemmas
 mod LengthLemmas
-mod NumberLemmas
 mod PathLemmas
 mod ReadingLemmas
 mod RequestLemmas

@@ -6,12 +6,12 @@ use Rattle.std.specs.Char.{is_ascii_digit}
 use Rattle.std.specs.Str.{bytes_eq}
 use Rattle.std.specs.Str.Parse.{digits_value}
 use Rattle.std.specs.Cmp.Lexicographic.{same_text, other_text}
-use Rattle.http_edge.specs.Numbers.{IsNumber, number_up_to, up_to, numeral, cut_of, with_first}
+use Rattle.sat_base.specs.Text.{same, IsNumber, number_up_to, cut_of}
 use Rattle.http_edge.specs.Paths.{IsPath}
-use Rattle.http_edge.specs.RouteSteps.{same, starts, with_number, numbered_of, operator_at, node_word, node_at, segment_word, segment_at, customer_word, customer_at, route_at}
+use Rattle.http_edge.specs.RouteSteps.{starts, with_number, numbered_of, operator_at, node_word, node_at, segment_word, segment_at, customer_word, customer_at, route_at}
 use Rattle.http_edge.specs.declared.routes.Route.{Route}
 use Rattle.http_edge.specs.declared.routes.Route.TheVariants.{Begin, Commit, Get, Delete, Settle, SetFree, AddNode, AddCustomer, Stop}
-use Rattle.http_edge.proofs.LengthLemmas.{numeral_from, numeral_to}
+use Rattle.sat_base.proofs.TextLemmas.{then_some, map_some, cond_some, test_some, cut_front, cut_back, number_is, number_found}
 
 not_case : (b : Bool) → true ≡ not b → false ≡ b
 not_case true e = cc
@@ -26,91 +26,6 @@ other_bytes xs ys e = other_text xs ys (not_case (bytes_eq xs ys) e)
 
 pub same_bytes : (xs ys : List ℕ) → false ≡ not (bytes_eq xs ys) → xs ≡ ys
 same_bytes xs ys e = same_text xs ys (is_case (bytes_eq xs ys) e)
-
--- ---- choices
-
-pub then_some : {A B : Type 0} (f : A → Option B) (o : Option A) (r : B) → option_and_then f o ≡ Some r → (x : A) × (o ≡ Some x) × (f x ≡ Some r)
-then_some f None r e = cc
-then_some f (Some x) r e = (x, refl, e)
-
-pub map_some : {A B : Type 0} (f : A → B) (o : Option A) (r : B) → option_map f o ≡ Some r → (x : A) × (o ≡ Some x) × (f x ≡ r)
-map_some f None r e = cc
-map_some f (Some x) r e = (x, refl, cc)
-
-cond_some : {A : Type 0} (b : Bool) (x r : A) (o : Option A) → cond b (Some x) o ≡ Some r → ((b ≡ true) × (x ≡ r)) ⊎ ((b ≡ false) × (o ≡ Some r))
-cond_some true x r o e = inl (refl, cc)
-cond_some false x r o e = inr (refl, e)
-
-pub test_some : {A : Type 0} (b : Bool) (r : A) (o p : Option A) → cond b o p ≡ Some r → ((b ≡ true) × (o ≡ Some r)) ⊎ ((b ≡ false) × (p ≡ Some r))
-test_some true r o p e = inl (refl, e)
-test_some false r o p e = inr (refl, e)
-
--- ---- parts
-
-digit_is_other : (mark x : ℕ) → mark < 48 → IsTrue (is_ascii_digit x) → (x == mark) ≡ false
-digit_is_other mark x m h = grind (arith, common_steps)
-
--- digits hold no mark
-pub cut_front : (mark : ℕ) → mark < 48 → (ds rest : List ℕ) → All (λ b. IsTrue (is_ascii_digit b)) ds → cut_of mark (ds ++ mark ∷ rest) ≡ Some (ds, rest)
-cut_front mark m [] rest h =
-    let t : (mark == mark) ≡ true = grind (arith, common_steps) in
-    rw t refl
-cut_front mark m (d ∷ ds) rest h =
-    let first : IsTrue (is_ascii_digit d) = h 0 0 (omega arith) in
-    rw (digit_is_other mark d m first, cut_front mark m ds rest (λ k x lt. h (suc k) x (omega arith))) refl
-
-cut_case : (b : Bool) (mark x : ℕ) (xs : List ℕ) (o : Option (List ℕ × List ℕ)) (p : List ℕ × List ℕ) → (x == mark) ≡ b → ((q : List ℕ × List ℕ) → o ≡ Some q → xs ≡ q.0 ++ mark ∷ q.1)
-    → cond b (Some ([], xs)) (option_map (with_first x) o) ≡ Some p → x ∷ xs ≡ p.0 ++ mark ∷ p.1
-cut_case true mark x xs o p t ih e =
-    let q : ([], xs) ≡ p = cc in
-    let same : x ≡ mark = grind (arith, common_steps, t) in
-    ap (λ y. y ∷ xs) same ∙ ap (λ (r : List ℕ × List ℕ). r.0 ++ mark ∷ r.1) q
-cut_case false mark x xs o p t ih e =
-    let m = map_some (with_first x) o p e in
-    ap (λ l. x ∷ l) (ih m.0 m.1) ∙ ap (λ (r : List ℕ × List ℕ). r.0 ++ mark ∷ r.1) m.2
-
-pub cut_back : (mark : ℕ) (xs : List ℕ) (p : List ℕ × List ℕ) → cut_of mark xs ≡ Some p → xs ≡ p.0 ++ mark ∷ p.1
-cut_back mark [] p e = cc
-cut_back mark (x ∷ xs) p e = cut_case (x == mark) mark x xs (cut_of mark xs) p refl (λ q h. cut_back mark xs q h) e
-
--- where the first mark is found
-pub cut_at : (mark : ℕ) (xs : List ℕ) (i : ℕ) → i < length xs → ((k : ℕ) → k < i → get_or xs k 0 ≡ mark → ⊥) → get_or xs i 0 ≡ mark → cut_of mark xs ≡ Some (take i xs, drop (suc i) xs)
-cut_at mark [] i h before at = absurd (omega arith)
-cut_at mark (x ∷ xs) zero h before at =
-    let t : (x == mark) ≡ true = grind (arith, common_steps, at) in
-    rw t refl
-cut_at mark (x ∷ xs) (suc i) h before at =
-    let other : x ≢ mark = before 0 (omega arith) in
-    let t : (x == mark) ≡ false = grind (arith, common_steps, other) in
-    rw (t, cut_at mark xs i (omega arith) (λ k lt e. before (suc k) (omega arith) e) at) refl
-
-pub cut_none : (mark : ℕ) (xs : List ℕ) → ((k : ℕ) → k < length xs → get_or xs k 0 ≡ mark → ⊥) → cut_of mark xs ≡ None
-cut_none mark [] before = refl
-cut_none mark (x ∷ xs) before =
-    let other : x ≢ mark = before 0 (omega arith) in
-    let t : (x == mark) ≡ false = grind (arith, common_steps, other) in
-    rw (t, cut_none mark xs (λ k lt e. before (suc k) (omega arith) e)) refl
-
--- ---- numbers
-
-up_to_is : (most n : ℕ) → n ≤ most → up_to most n ≡ Some n
-up_to_is most n h = grind (arith, common_steps)
-
-pub number_is : (most bound : ℕ) (ds : List ℕ) (n : ℕ) → bound ≡ most + 1 → IsNumber ds n bound → number_up_to most ds ≡ Some n
-number_is most bound ds n b h =
-    let t : numeral ds ≡ true = numeral_from ds h.numeral in
-    rw (t, h.value) (up_to_is most n (omega (arith, h.small)))
-
-pub number_found : (most bound : ℕ) (ds : List ℕ) (n : ℕ) → bound ≡ most + 1 → number_up_to most ds ≡ Some n → IsNumber ds n bound
-number_found most bound ds n b e =
-    elim (test_some (numeral ds) n (up_to most (digits_value 10 ds)) None e) [
-      | inl p ↦ elim (cond_some (nat_le (digits_value 10 ds) most) (digits_value 10 ds) n None p.1) [
-        | inl q ↦ let le : digits_value 10 ds ≤ most = grind (arith, common_steps, q.0) in
-            record { numeral = numeral_to ds p.0; value = q.1; small = omega (arith, q.1, le) }
-        | inr q ↦ let no : Some n ≡ None = sym q.1 in cc
-      ]
-      | inr p ↦ let no : Some n ≡ None = sym p.1 in cc
-    ]
 
 numbered_front : (most bound : ℕ) (ds : List ℕ) (n : ℕ) (rest : List ℕ) → bound ≡ most + 1 → IsNumber ds n bound → numbered_of most (ds ++ 47 ∷ rest) ≡ Some (n, rest)
 numbered_front most bound ds n rest b h = rw (cut_front 47 (lit< tt) ds rest h.numeral.digits, number_is most bound ds n b h) refl

@@ -1,6 +1,6 @@
 -- An IPv4 address in text: four numbers from 0 to 255 in plain decimal, joined by dots.
 use Rattle.std.specs.Prelude.{◌≡◌, ◌<◌, ◌++◌, codes, decimal, ℕ, ◌+◌, ◌*◌, List, length, slice_index, cond, not, ◌==◌, ◌||◌, Bool, Option, None, option_and_then, option_map}
-use Rattle.http_edge.specs.Numbers.{cut_of, number_up_to}
+use Rattle.sat_base.specs.Text.{cut_of, number_up_to}
 
 -- no zero leads
 abbrev pub is_plain : List ℕ → Bool

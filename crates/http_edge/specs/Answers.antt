@@ -4,6 +4,8 @@ use Rattle.hex.specs.Hex.{encode_lower}
 use Rattle.http.specs.StatusCode.{reason_phrase}
 use Rattle.order_limits.specs.Keys.{node_key, customer_key, serial_key}
 use Rattle.order_limits.specs.Order.{action_of, limit_bytes}
+use Rattle.order_limits.specs.Grant.{expiry_of, limit_at}
+use Rattle.order_limits.specs.declared.grant.Grant.{Grant}
 use Rattle.order_limits.specs.declared.limit.Action.TheVariants as actions
 use Rattle.order_limits.specs.declared.limit.Limit.{Limit}
 use Rattle.machine_calls.specs.declared.reply.Reply.{Reply}
@@ -67,19 +69,19 @@ dotted addr =
     decimal (addr / 16777216) ++ (codes "." ++ (decimal (addr / 65536 % 256) ++ (codes "." ++ (decimal (addr / 256 % 256)
     ++ (codes "." ++ decimal (addr % 256))))))
 
--- the limit that is offered for a place, which ends a day later
-abbrev pub limit_of : Offer → Place → Limit
-limit_of offer place = record {
+-- what is offered at each place
+abbrev pub grant_of : Offer → Grant
+grant_of offer = record {
   action = unwrap_or (action_of offer.action) actions.Get;
   serial = offer.serial;
-  node = place.node;
   segment = offer.segment;
-  index = place.index;
   limit = offer.piece_len;
   issued = offer.issued;
-  expires = offer.issued + 86400;
   customer = offer.customer;
 }
+
+abbrev pub limit_of : Offer → Place → Limit
+limit_of offer place = limit_at (grant_of offer) (record { index = place.index; node = place.node })
 
 abbrev pub spot_data : Place → List ℕ → Data
 spot_data place limit =
@@ -92,7 +94,7 @@ place_data secret offer place = spot_data place (encode_lower (limit_bytes secre
 
 abbrev pub offer_data : List ℕ → Offer → Data
 offer_data secret offer =
-    object (member (codes "expires") (whole (offer.issued + 86400)) (member (codes "issued") (whole offer.issued)
+    object (member (codes "expires") (whole (expiry_of offer.issued)) (member (codes "issued") (whole offer.issued)
     (member (codes "offers") (array (items_of (map (place_data secret offer) offer.places)))
     (member (codes "piece_length") (whole offer.piece_len) (member (codes "segment") (whole offer.segment.0)
     (member (codes "serial") (whole offer.serial.0)

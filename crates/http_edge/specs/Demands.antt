@@ -4,9 +4,10 @@ use Rattle.std.specs.Str.Parse.{digits_value}
 use Rattle.httparse.specs.Grammar.{RequestHead}
 use Rattle.httparse.specs.Spans.{name_and_value}
 use Rattle.http_edge.specs.Headers.{value_named, values_named, is_key}
-use Rattle.http_edge.specs.Numbers.{numeral}
+use Rattle.sat_base.specs.Text.{numeral}
 use Rattle.http_edge.specs.Paths.{IsPath}
 use Rattle.order_limits.specs.Keys.{node_key, customer_key, operator_key}
+use Rattle.http_edge.specs.declared.bounds.TheConstants.{MAX_BODY}
 use Rattle.http_edge.specs.declared.routes.Route.{Route}
 use Rattle.http_edge.specs.declared.routes.Route.TheVariants.{Begin, Commit, Get, Delete, Settle, SetFree, AddNode, AddCustomer, Stop}
 use Rattle.http_edge.specs.declared.wish.EdgeErr.TheVariants.{NoRoute, BadMethod, Key, Transfer, NoLength, BadLength, BodySize}
@@ -32,7 +33,7 @@ is_key_of key (Some text) = is_key key text
 
 -- the most bytes of a body
 abbrev pub max_body : ℕ
-max_body = 65536
+max_body = MAX_BODY
 
 -- what the values of Content-Length say
 abbrev pub of_lengths : Route → List (List ℕ) → Demand

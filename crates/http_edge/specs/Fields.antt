@@ -9,6 +9,7 @@ use Rattle.serde_json.specs.Find.{get, as_str, as_array, as_number, as_u64}
 use Rattle.sat_base.specs.declared.ids.CustomerId.{CustomerId}
 use Rattle.sat_base.specs.declared.ids.NodeId.{NodeId}
 use Rattle.sat_base.specs.declared.ids.SegId.{SegId}
+use Rattle.sat_base.specs.Results.{◌>>=◌}
 use Rattle.http_edge.specs.Address.{address_of}
 use Rattle.http_edge.specs.declared.routes.Route.{Route}
 use Rattle.http_edge.specs.declared.routes.Route.TheVariants as routes
@@ -27,11 +28,6 @@ reading body = cond (is_utf8 body) (read body) None
 abbrev pub needed : {A : Type 0} → ℕ → Option A → Result A EdgeErr
 needed place None = Err (Field place)
 needed place (Some x) = Ok x
-
-infixl 10 ◌>>=◌
-abbrev pub ◌>>=◌ : {A B : Type 0} → Result A EdgeErr → (A → Result B EdgeErr) → Result B EdgeErr
-(Ok x) >>= f = f x
-(Err e) >>= f = Err e
 
 -- a whole number from 0 to 2^64 - 1
 abbrev pub whole_of : Data → Option ℕ

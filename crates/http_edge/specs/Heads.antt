@@ -4,16 +4,17 @@ use Rattle.httparse.specs.Grammar.{RequestHead, ReadsRequest, print_request, Has
 use Rattle.httparse.specs.Spans.{IsRequestWithin, IsRequestOf, RequestExceeds, RequestOverflows}
 use Rattle.httparse.specs.declared.spans.HeaderSpan.{HeaderSpan}
 use Rattle.sat_base.specs.Streams.{AtEnd}
+use Rattle.http_edge.specs.declared.bounds.TheConstants.{MAX_HEAD, MAX_LINES}
 use Rattle.http_edge.specs.declared.head.Look.{Look}
 use Rattle.http_edge.specs.declared.head.Look.TheVariants as looks
 use Rattle.http_edge.specs.declared.head.HeadEnd.{HeadEnd}
 use Rattle.http_edge.specs.declared.head.HeadEnd.TheVariants.{Whole, Never, Ended, Full, Fault}
 
 abbrev pub max_head : ℕ
-max_head = 8192
+max_head = MAX_HEAD
 
 abbrev pub max_lines : ℕ
-max_lines = 64
+max_lines = MAX_LINES
 
 -- the bytes are that head, of at most 64 header lines in at most 8192 bytes, and then rest
 pub record HasHead (bytes : List ℕ) (h : RequestHead) (rest : List ℕ) : Type 0 where

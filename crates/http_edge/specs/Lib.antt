@@ -5,7 +5,6 @@ pub mod Fetches
 pub mod Fields
 pub mod Headers
 pub mod Heads
-pub mod Numbers
 pub mod Paths
 pub mod Refusals
 pub mod Requests

@@ -1,6 +1,6 @@
 -- The routes: the path of each, in codes and numbers.
 use Rattle.std.specs.Prelude.{◌≡◌, ℕ, ◌^◌, List, ◌++◌, codes}
-use Rattle.http_edge.specs.Numbers.{IsNumber}
+use Rattle.sat_base.specs.Text.{IsNumber}
 use Rattle.http_edge.specs.declared.routes.Route.{Route}
 use Rattle.http_edge.specs.declared.routes.Route.TheVariants.{Begin, Commit, Get, Delete, Settle, SetFree, AddNode, AddCustomer, Stop}
 

@@ -1,7 +1,7 @@
 -- What the bytes of a connection ask: a wish, or an error.
 use Rattle.std.specs.Prelude.{◌≢◌, ℕ, ◌+◌, ◌<◌, ◌≤◌, List, length, take, Result, Ok, Err, Bool, true, false}
 use Rattle.httparse.specs.Grammar.{RequestHead, NeverHasRequest}
-use Rattle.http_edge.specs.Demands.{Demands}
+use Rattle.http_edge.specs.Demands.{Demands, max_body}
 use Rattle.http_edge.specs.Fields.{body_of}
 use Rattle.http_edge.specs.Heads.{max_head, HasHead, LacksHead, MayReadHead}
 use Rattle.http_edge.specs.declared.demand.Demand.TheVariants.{Refused, Body}
@@ -67,7 +67,7 @@ failed_request (Err Fault) = true
 
 -- the most bytes of a request
 abbrev pub max_request : ℕ
-max_request = 73728
+max_request = max_head + max_body
 
 -- the error where there is no body
 abbrev pub unread_as : BodyErr → ReadErr

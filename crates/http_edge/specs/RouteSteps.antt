@@ -1,12 +1,8 @@
 -- How the route of a path is found, step by step. That it is the route of the path's relation is proved.
-use Rattle.std.specs.Prelude.{ℕ, List, length, take, drop, codes, cond, Bool, nat_eq, Option, Some, None, option_map, option_and_then}
-use Rattle.std.specs.Cmp.Lexicographic.{pointwise}
-use Rattle.http_edge.specs.Numbers.{cut_of, number_up_to}
+use Rattle.std.specs.Prelude.{ℕ, List, length, take, drop, codes, cond, Bool, Option, Some, None, option_map, option_and_then}
+use Rattle.sat_base.specs.Text.{same, cut_of, number_up_to}
 use Rattle.http_edge.specs.declared.routes.Route.{Route}
 use Rattle.http_edge.specs.declared.routes.Route.TheVariants.{Begin, Commit, Get, Delete, Settle, SetFree, AddNode, AddCustomer, Stop}
-
-abbrev pub same : List ℕ → List ℕ → Bool
-same a b = pointwise nat_eq a b
 
 -- the text begins with that one
 abbrev pub starts : List ℕ → List ℕ → Bool

@@ -2,7 +2,7 @@
 ghost use Rattle.std.specs.Prelude.{◌≡◌, ◌<◌, ◌≤◌, ◌+◌, ◌*◌, IfSome, option_map};
 ghost use Rattle.http_edge.specs.Address.{octet_of, next_of, last_of, address_of};
 
-use crate::numbers::{cut, number};
+use sat_base::{cut, number};
 
 /// The number of an address: four numbers from 0 to 255 in plain decimal, joined by dots, of which the first
 /// is the highest byte.

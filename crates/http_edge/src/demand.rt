@@ -5,12 +5,13 @@ ghost use Rattle.httparse.specs.Grammar.{RequestHead};
 ghost use Rattle.http_edge.specs.Demands.{Demands, of_headers, of_lengths, is_key_of, key_of, IsSmall};
 ghost use Rattle.http_edge.specs.Headers.{value_named, values_named};
 
+use crate::bounds::MAX_BODY;
 use crate::headers::{count_named, first_named, holds_key};
-use crate::numbers::{is_numeral, value_up_to};
 use crate::routes::{Route, route_of};
 use crate::wish::EdgeErr;
 use httparse::spans::{HeaderSpan, RequestSpans};
 use order_limits::Keys;
+use sat_base::{is_numeral, value_up_to};
 
 /// What a head alone says.
 #[derive(Clone, Copy, Debug)]
@@ -95,7 +96,7 @@ fn with_length(route: Route, buf: &[u8], headers: &[HeaderSpan]) -> Demand
     if !is_numeral(length) {
         return Demand::Refused(EdgeErr::BadLength);
     }
-    match value_up_to(length, 65536) {
+    match value_up_to(length, MAX_BODY) {
         Some(length) => Demand::Body(route, length as usize),
         None => Demand::Refused(EdgeErr::BodySize),
     }

@@ -19,13 +19,13 @@
 
 mod address;
 mod answers;
+mod bounds;
 mod demand;
 mod fetch;
 mod fields;
 mod head;
 mod headers;
 mod laws;
-mod numbers;
 mod offers;
 mod order;
 mod pieces;
@@ -38,6 +38,7 @@ mod texts;
 mod wish;
 
 pub use answers::{answer, edge_answer, memory_answer};
+pub use bounds::{MAX_BODY, MAX_HEAD, MAX_LINES};
 pub use laws::{addresses_are_dotted, bodies_are_spelled, heads_decide};
 pub use request::read_request;
 pub use sending::{Sent, send};

@@ -5,11 +5,11 @@ ghost use Rattle.serde_json.specs.Data.{Data};
 ghost use Rattle.serde_json.specs.View.{view, items_view, items_of};
 ghost use Rattle.hex.specs.Hex.{encode_lower};
 ghost use Rattle.order_limits.specs.Keys.{serial_key};
-ghost use Rattle.http_edge.specs.Answers.{dotted, limit_of, spot_data, place_data, offer_data};
+ghost use Rattle.http_edge.specs.Answers.{dotted, grant_of, spot_data, place_data, offer_data};
 
 use crate::replies::hex_text;
-use order_limits::{Action, Keys, Limit};
-use sat_base::{Offer, Place};
+use order_limits::{Action, Grant, Keys, LIFE};
+use sat_base::{At, Offer, Place};
 use serde_json::{Value, json};
 use std::alloc::{AllocError, Global};
 
@@ -20,7 +20,7 @@ pub(crate) fn offer_value(alloc: Global, keys: &Keys, offer: &Offer) -> Result<V
     let offers = place_values(alloc, keys, offer)?;
     let serial_key = hex_text(alloc, &keys.serial(offer.serial))?;
     let issued = offer.issued.seconds();
-    let expires = issued + 86400;
+    let expires = issued + LIFE;
     let piece_length = offer.piece_len;
     let segment = offer.segment.0;
     let serial = offer.serial.0;
@@ -50,7 +50,11 @@ fn place_values(alloc: Global, keys: &Keys, offer: &Offer) -> Result<Vec<Value>,
 fn place_value(alloc: Global, keys: &Keys, offer: &Offer, place: Place) -> Result<Value, AllocError>
     ensures { IfOk result (λ v. view v ≡ place_data keys.now offer.now place) }
 {
-    let limit = hex_text(alloc, &limit_at(offer, place).write(keys))?;
+    let at = At {
+        index: place.index,
+        node: place.node,
+    };
+    let limit = hex_text(alloc, &grant_of(offer).at(at).write(keys))?;
     spot_value(alloc, place, &limit)
 }
 
@@ -68,20 +72,16 @@ fn spot_value(alloc: Global, place: Place, limit: &str) -> Result<Value, AllocEr
     })
 }
 
-// The limit that is offered for a place.
-fn limit_at(offer: &Offer, place: Place) -> Limit
-    ensures { result ≡ limit_of offer.now place }
+// What is offered at each place.
+fn grant_of(offer: &Offer) -> Grant
+    ensures { result ≡ grant_of offer.now }
 {
-    let issued = offer.issued.seconds();
-    Limit {
+    Grant {
         action: offered_action(offer.action),
         serial: offer.serial,
-        node: place.node,
         segment: offer.segment,
-        index: place.index,
         limit: offer.piece_len,
-        issued,
-        expires: issued + 86400,
+        issued: offer.issued,
         customer: offer.customer,
     }
 }

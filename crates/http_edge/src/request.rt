@@ -8,6 +8,7 @@ ghost use Rattle.http_edge.specs.Fetches.{MayReadBody};
 ghost use Rattle.http_edge.specs.Heads.{max_head, max_lines};
 ghost use Rattle.http_edge.specs.Requests.{Outcome, BehindHead, IsBodyOutcome, MayRead, MayReadBehind, max_request, unread_as, failed_request};
 
+use crate::bounds::{MAX_HEAD, MAX_LINES};
 use crate::demand::{Demand, demand_of};
 use crate::fetch::{BodyErr, fetch_body};
 use crate::fields::wish_of;
@@ -27,10 +28,10 @@ pub fn read_request<S: Source>(alloc: Global, source: &mut S, keys: &Keys) -> Re
     ensures took { (bytes : List ℕ) × Took (MayRead keys.now) bytes 1 (failed_request result)
         (S.about source.old) (S.about source.new) × (length bytes ≤ max_request) }
 {
-    let Ok(mut buf) = vec![in alloc; 0u8; 8192] else {
+    let Ok(mut buf) = vec![in alloc; 0u8; MAX_HEAD] else {
         return Err(ReadErr::Edge(EdgeErr::NoMemory));
     };
-    let mut headers = [EMPTY_HEADER_SPAN; 64];
+    let mut headers = [EMPTY_HEADER_SPAN; MAX_LINES];
     read_into(alloc, source, keys, &mut buf, &mut headers)
 }
 

@@ -4,8 +4,7 @@ ghost use Rattle.http_edge.specs.Paths.{IsPath};
 ghost use Rattle.http_edge.specs.RouteSteps.{route_at, customer_at, segment_at, node_at, operator_at, numbered_of};
 ghost use Rattle.http_edge.specs.declared.routes.Route.{Route};
 
-use crate::numbers::{cut, number};
-use sat_base::{CustomerId, NodeId, SegId};
+use sat_base::{CustomerId, NodeId, SegId, cut, number};
 
 /// What a path names.
 #[derive(Clone, Copy, Debug, PartialEq, Eq)]

@@ -151,8 +151,3 @@ impl<S: Alter + Drop> Keeper for KeeperSqlite<S> {
         self.faults
     }
 }
-
-#[cfg(test)]
-mod bad_input;
-#[cfg(test)]
-mod tests;

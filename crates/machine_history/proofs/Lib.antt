@@ -1,2 +1,3 @@
 mod RepeatLemmas
 mod HistoryLemmas
+pub mod OrderLemmas

@@ -1,2 +1,3 @@
 pub mod History
 pub mod Repeats
+pub mod Orders

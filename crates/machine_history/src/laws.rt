@@ -10,6 +10,7 @@ ghost use Rattle.machine_step.specs.Bounds.{IsValid};
 ghost use Rattle.machine_step.specs.Step.{step, after};
 ghost use Rattle.machine_history.specs.Repeats.{Request, request_of, after_all, AreQuiet};
 ghost use Rattle.machine_history.specs.History.{Said, replay, IsLegal};
+ghost use Rattle.machine_history.specs.Orders.{AreOfBytes, SettleOnce};
 
 /// A numbered request acts once. Once it is accepted, an equal one has the same answer and changes nothing, as long
 /// as no other number of its caller is accepted and nothing stops the machine.
@@ -33,4 +34,11 @@ pub fn equal_versions_are_equal()
         → segment_at (replay t h).segments id ≡ Some a
         → segment_at (replay t (h ++ more)).segments id ≡ Some b
         → b.version ≡ a.version → b ≡ a }
+{}
+
+/// Each order settles once: where a call was answered as settled, its bytes are a good order of the node that presented
+/// it, over an amount within its limit; there was no row of its serial and node at the beginning, and no earlier call of
+/// the history settled one.
+pub fn each_order_settles_once()
+    ensures { (t : Tables) (h : List Said) → IsValid t → IsLegal t h → AreOfBytes h → SettleOnce t h }
 {}

@@ -6,6 +6,8 @@
 //!   answer and changes nothing.
 //! - [`each_history_keeps_the_rules`]: the tables keep every rule, the order of their rows and the bounds of their
 //!   records throughout.
+//! - [`each_order_settles_once`]: an order that was settled is a good one of its node, within its limit, and the first
+//!   of its serial and node.
 //! - [`equal_versions_are_equal`]: a segment that is found at two moments in one version is the same record, so its
 //!   pieces are the same.
 //!
@@ -15,5 +17,6 @@
 mod laws;
 
 pub use laws::{
-    an_equal_request_acts_once, each_history_keeps_the_rules, equal_versions_are_equal,
+    an_equal_request_acts_once, each_history_keeps_the_rules, each_order_settles_once,
+    equal_versions_are_equal,
 };

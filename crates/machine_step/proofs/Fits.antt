@@ -36,7 +36,8 @@ use Rattle.machine_calls.specs.declared.reply.Reply.{Reply}
 use Rattle.machine_calls.specs.declared.reply.Reply.TheVariants as replies
 use Rattle.machine_calls.specs.declared.refusal.Refusal.TheVariants as refusals
 use Rattle.machine_calls.specs.declared.refusal.TableName.TheVariants as names
-use Rattle.machine_step.specs.Tables.{Tables, max_len_of, is_no_size, customer_at, segment_at, if_owned, owned_at, all_changed}
+use Rattle.machine_step.specs.Tables.{Tables, max_len_of, is_no_size, customer_at, segment_at, if_owned, owned_at, changed, all_changed}
+use Rattle.machine_step.specs.Writable.{IsWritable}
 use Rattle.machine_step.specs.Outcome.{Outcome, unchanged}
 use Rattle.machine_step.specs.Places.{picks_of, pieces_from, places_of}
 use Rattle.machine_step.specs.Rules.{is_known, are_known, are_apart, counts_up, is_sound_segment, is_sound_settled, is_sound_kept}
@@ -48,15 +49,43 @@ use Rattle.machine_step.proofs.GrowthLemmas.{plan-most, AreLater, plan-some, seg
 use Rattle.machine_step.proofs.RowLemmas.{row_at-with_row, found_rank, length-with_row, length-replaced, each-found, and_of}
 use Rattle.machine_step.proofs.SettleLemmas.{settles-new}
 use Rattle.settlement.specs.Settle.{settlable}
+use Rattle.sat_base.specs.declared.records.Key.TheVariants as keys
 use Rattle.machine_calls.specs.declared.change.RecChange.{RecChange}
+use Rattle.machine_calls.specs.declared.change.RecChange.TheVariants as changes
 use Rattle.machine_step.proofs.SegmentLemmas.{IsNext, segments_new, segments_set}
-use Rattle.machine_step.proofs.Steady.{MarksFit, AllFit, Becomes, all_become, grows_self, found_fine}
+use Rattle.machine_step.proofs.Steady.{MarksFit, FitsIn, AllFit, Becomes, all_become, grows_self, found_fine}
 use Rattle.machine_step.proofs.Steady.NodeFits.{next_node, update}
 use Rattle.machine_step.proofs.Validity.{segments_hold, steady_of}
 
 -- what a step makes of the tables, before it is swept
 abbrev pub After : Tables → Outcome → Type 0
-After t o = Becomes t.marks.segment t (all_changed t o.changes)
+After t o = Becomes t.marks.segment t (all_changed t o.changes) × Each IsWritable o.changes
+
+-- what fits is what a store can be told
+fits_writable : (from : ℕ) (t : Tables) (change : RecChange) → FitsIn from t change → IsWritable change
+fits_writable from t (changes.Settings settings) fit = fit
+fits_writable from t (changes.Marks marks) fit = tt
+fits_writable from t (changes.Node node) fit = tt
+fits_writable from t (changes.Customer customer) fit = tt
+fits_writable from t (changes.Segment segment) fit = fit.within.few
+fits_writable from t (changes.SettledRow row) fit = tt
+fits_writable from t (changes.Tally tally) fit = tt
+fits_writable from t (changes.Statement statement) fit = tt
+fits_writable from t (changes.AuditPlan plan) fit = absurd fit
+fits_writable from t (changes.RecheckPlan plan) fit = tt
+fits_writable from t (changes.RepairPlan plan) fit = absurd fit
+fits_writable from t (changes.Containment containment) fit = tt
+fits_writable from t (changes.Kept kept) fit = fit.within
+fits_writable from t (changes.ExitPlan plan) fit = absurd fit
+fits_writable from t (changes.Left left) fit = tt
+fits_writable from t (changes.Tariff tariff) fit = tt
+fits_writable from t (changes.Remove (keys.Segment id)) fit = tt
+fits_writable from t (changes.Remove (keys.Plan kind)) fit = absurd fit
+fits_writable from t (changes.Remove (keys.Containment node)) fit = tt
+
+all_writable : (from : ℕ) (t : Tables) (cs : List RecChange) → AllFit from t cs → Each IsWritable cs
+all_writable from t [] fit = tt
+all_writable from t (change ∷ cs) fit = (fits_writable from t change fit.0, all_writable from (changed t change) cs fit.1)
 
 -- the marks at a moment
 abbrev pub timed : Marks → ℕ → Marks
@@ -64,10 +93,10 @@ timed marks time = record marks { time = time }
 
 module _ (t : Tables) (v : IsValid t) where
   pub still : (answer : Reply) → After t (unchanged answer)
-  still answer = record { steady = steady_of t v; grows = grows_self t.marks.segment t }
+  still answer = (record { steady = steady_of t v; grows = grows_self t.marks.segment t }, tt)
 
-  pub fitting : (cs : List RecChange) → AllFit t.marks.segment t cs → Becomes t.marks.segment t (all_changed t cs)
-  fitting cs fit = all_become t.marks.segment cs t (steady_of t v) fit
+  pub fitting : (cs : List RecChange) → AllFit t.marks.segment t cs → Becomes t.marks.segment t (all_changed t cs) × Each IsWritable cs
+  fitting cs fit = (all_become t.marks.segment cs t (steady_of t v) fit, all_writable t.marks.segment t cs fit)
 
   pub fine_found : (id : ℕ) (found : SegmentRecord) → segment_at t.segments id ≡ Some found → IsFine t.setup t.marks t.nodes t.customers found
   fine_found id found at = found_fine t.marks.segment t (steady_of t v) id found at

@@ -20,7 +20,8 @@ use Rattle.machine_calls.specs.declared.change.RecChange.{RecChange}
 use Rattle.machine_calls.specs.declared.change.RecChange.TheVariants as changes
 use Rattle.machine_step.specs.Tables.{Setup, Tables, segment_at, changed, all_changed}
 use Rattle.machine_step.specs.Rules.{first_bad, is_rated, are_sound_marks, breaks_node, breaks_customer, is_sound_segment, is_sound_settled, is_sound_kept, bad_tariff}
-use Rattle.machine_step.specs.Bounds.{Each, IsSetupWithin, AreMarksWithin, IsSegmentWithin, IsKeptWithin, IsTariffWithin}
+use Rattle.sat_base.specs.Limits.{AreMarksWithin, IsKeptWithin, IsTariffWithin}
+use Rattle.machine_step.specs.Bounds.{Each, IsSetupWithin, IsSegmentWithin}
 use Rattle.machine_step.proofs.GrowthLemmas.{AreLater, marks-later, Extends, extends_self, extends_next, extends_set, StayKnown, customer_more, nodes-later, nodes-next, nodes-set, none_next, customers-later, customers-next, IsFine, fine, Grows, segment-later, settled-later, kept-later}
 use Rattle.machine_step.proofs.SegmentLemmas.{SegmentsGrow, segments_self, segments_trans, segments_less}
 use Rattle.machine_step.proofs.RowLemmas.{row_at-with_row, found_rank, rising-with_row, length-without, all-with_row, all-without, each-with_row, each-without, all-found, all-weaker}

@@ -1,15 +1,18 @@
 -- Each step keeps the rules of the tables, the order of their rows and the bounds of their records, and releases nothing that stands.
-use Rattle.std.proofs.Common.{◌≡◌, ℕ, ◌<◌, ◌^◌, Bool, true, false, refl, arith}
-use Rattle.std.specs.Prelude.{◌||◌, [], if◌then◌else◌}
+use Rattle.std.proofs.Common.{◌≡◌, ℕ, ◌<◌, ◌^◌, Bool, true, false, List, [], ◌∷◌, ◌++◌, refl, arith}
+use Rattle.std.specs.Prelude.{◌||◌, map, if◌then◌else◌}
 use Rattle.machine_calls.specs.declared.call.Call.{Call}
 use Rattle.machine_calls.specs.declared.call.Call.TheVariants as calls
 use Rattle.machine_calls.specs.declared.refusal.Refusal.TheVariants as refusals
 use Rattle.machine_calls.specs.declared.reply.Reply.TheVariants as replies
 use Rattle.machine_step.specs.Tables.{Tables, all_changed}
 use Rattle.machine_step.specs.Outcome.{refused}
-use Rattle.machine_step.specs.Containment.{with_releases, swept}
-use Rattle.machine_step.specs.Step.{risen, asking, operator, case_of, after, tables_after, is_stopping, IsWellFormed}
-use Rattle.machine_step.specs.Bounds.{IsValid}
+use Rattle.sat_base.specs.declared.records.Containment.{Containment}
+use Rattle.machine_calls.specs.declared.change.RecChange.{RecChange}
+use Rattle.machine_step.specs.Writable.{IsWritable}
+use Rattle.machine_step.specs.Containment.{release, fallen, with_releases, swept}
+use Rattle.machine_step.specs.Step.{risen, asking, operator, case_of, step, after, tables_after, is_stopping, IsWellFormed}
+use Rattle.machine_step.specs.Bounds.{Each, IsValid}
 use Rattle.machine_step.proofs.Validity.{Follows, follows, unreleased}
 use Rattle.machine_step.proofs.Fits.{After, still}
 use Rattle.machine_step.proofs.Calls.AddNode.{fit_add_node}
@@ -40,12 +43,33 @@ pub follows_step : (t : Tables) (call : Call) → IsValid t → IsWellFormed t c
 follows_step t call v w = go t.stopped
   where
     go : (b : Bool) → Follows t (tables_after t (if b then refused refusals.Stopped else swept t (case_of t call)))
-    go true = follows t (t.stopped || false) [] (still t v replies.Stopping)
-    go false = follows t ((all_changed t (with_releases t (case_of t call).changes)).stopped || is_stopping (case_of t call).reply) (case_of t call).changes (fit_case t call v w)
+    go true = follows t (t.stopped || false) [] (still t v replies.Stopping).0
+    go false = follows t ((all_changed t (with_releases t (case_of t call).changes)).stopped || is_stopping (case_of t call).reply) (case_of t call).changes (fit_case t call v w).0
 
 pub valid_step : (t : Tables) (call : Call) → IsValid t → IsWellFormed t call → IsValid (after t call)
 valid_step t call v w = (follows_step t call v w).valid
 
 -- what comes of a call releases nothing, as long as nothing is contained
 pub swept_case : (t : Tables) (call : Call) → IsValid t → IsWellFormed t call → with_releases t (case_of t call).changes ≡ (case_of t call).changes
-swept_case t call v w = unreleased t.marks.segment t (case_of t call).changes (fit_case t call v w).steady
+swept_case t call v w = unreleased t.marks.segment t (case_of t call).changes (fit_case t call v w).0.steady
+
+-- ---- what a store is told
+
+each-behind : (cs more : List RecChange) → Each IsWritable cs → Each IsWritable more → Each IsWritable (cs ++ more)
+each-behind [] more each behind = behind
+each-behind (c ∷ cs) more each behind = (each.0, each-behind cs more each.1 behind)
+
+releases_writable : (all : List Containment) → Each IsWritable (map release all)
+releases_writable [] = tt
+releases_writable (one ∷ rest) = (tt, releases_writable rest)
+
+with_releases_writable : (t : Tables) (cs : List RecChange) → Each IsWritable cs → Each IsWritable (with_releases t cs)
+with_releases_writable t [] each = tt
+with_releases_writable t (c ∷ cs) each = each-behind (c ∷ cs) (map release (fallen (all_changed t (c ∷ cs)))) each (releases_writable (fallen (all_changed t (c ∷ cs))))
+
+pub writable_step : (t : Tables) (call : Call) → IsValid t → IsWellFormed t call → Each IsWritable (step t call).changes
+writable_step t call v w = go t.stopped
+  where
+    go : (b : Bool) → Each IsWritable (if b then refused refusals.Stopped else swept t (case_of t call)).changes
+    go true = tt
+    go false = with_releases_writable t (case_of t call).changes (fit_case t call v w).1

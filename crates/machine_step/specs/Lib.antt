@@ -6,3 +6,4 @@ pub mod Calls
 pub mod Step
 pub mod Rules
 pub mod Bounds
+pub mod Writable

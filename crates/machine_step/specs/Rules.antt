@@ -3,6 +3,7 @@ use Rattle.std.specs.Prelude.{◌≡◌, ℕ, suc, ◌+◌, ◌/◌, ◌^◌, Bo
 use Rattle.std.specs.Option.{option_map}
 use Rattle.std.specs.List.{list_any, list_all}
 use Rattle.std.specs.Int.{w32, w64, to_be_bytes}
+use Rattle.sat_base.specs.declared.limits.TheConstants as limits
 use Rattle.sat_base.specs.declared.ids.NodeId.{NodeId}
 use Rattle.sat_base.specs.declared.ids.CustomerId.{CustomerId}
 use Rattle.sat_base.specs.declared.records.At.{At}
@@ -22,6 +23,7 @@ use Rattle.rows.specs.Rows.{row_at, IsRising}
 use Rattle.node_registry.specs.declared.node.Node.{Node}
 use Rattle.node_registry.specs.declared.node.Left.{Left}
 use Rattle.node_registry.specs.Registry.{node_at}
+use Rattle.node_registry.specs.Subnet.{subnet_at}
 use Rattle.segment_core.specs.Record.{SegmentRecord, segment_rank}
 use Rattle.settlement.specs.declared.row.SettledRow.{SettledRow}
 use Rattle.settlement.specs.Rows.{key}
@@ -50,7 +52,7 @@ has_begun month at = nat_le (first_day month) (at / 86400)
 
 -- a next number is 1 to 2^63
 abbrev pub is_next_number : ℕ → Bool
-is_next_number number = nat_le 1 number && nat_le number (2 ^ 63)
+is_next_number number = nat_le 1 number && nat_le number limits.LAST_NUMBER
 
 -- the next month to close is no earlier than the first one, and has begun; the least hour to tally is at most the next one; and the next numbers are in range
 abbrev pub are_sound_marks : Setup → Marks → Bool
@@ -83,7 +85,7 @@ are_known nodes pieces = list_all (λ piece. is_known nodes piece.node) pieces
 
 -- the subnets of the nodes that pieces lie on
 abbrev pub subnets_of : List Node → List At → List ℕ
-subnets_of nodes pieces = map (λ piece. addr_of (node_at nodes piece.node) / 256) pieces
+subnets_of nodes pieces = map (λ piece. subnet_at (addr_of (node_at nodes piece.node))) pieces
 
 -- none comes twice
 abbrev pub are_apart : List ℕ → Bool
@@ -169,7 +171,7 @@ breaks_kept marks nodes customers i kept = not (is_sound_kept marks nodes custom
 abbrev pub bad_tariffs : ℕ → ℕ → List Tariff → List ℕ
 bad_tariffs first i [] = []
 bad_tariffs first i (tariff ∷ rest) =
-    if nat_lt tariff.from.0 first || nat_le 4096 i then tariff.from.0 ∷ bad_tariffs first (suc i) rest
+    if nat_lt tariff.from.0 first || nat_le limits.TARIFFS i then tariff.from.0 ∷ bad_tariffs first (suc i) rest
     else bad_tariffs first (suc i) rest
 
 -- the first month, where no tariff begins in it

@@ -1,5 +1,6 @@
 -- The step of the machine: what comes of each call, and the tables after it.
 use Rattle.std.specs.Prelude.{◌≡◌, ℕ, ◌^◌, ◌<◌, Bool, true, false, ◌||◌, length, max, if◌then◌else◌}
+use Rattle.sat_base.specs.declared.limits.TheConstants as limits
 use Rattle.sat_base.specs.declared.ids.CustomerId.{CustomerId}
 use Rattle.machine_calls.specs.declared.asking.Asking.{Asking}
 use Rattle.machine_calls.specs.declared.call.Call.{Call}
@@ -74,7 +75,7 @@ moment_of calls.Stop = 0
 
 -- a call has as many words as it takes
 abbrev pub HasItsWords : Call → Type 0
-HasItsWords (calls.Begin now customer request len words) = length words ≡ 128
+HasItsWords (calls.Begin now customer request len words) = length words ≡ limits.WORDS
 HasItsWords _ = Unit {0}
 
 -- what a call is to be by itself

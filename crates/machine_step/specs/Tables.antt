@@ -1,5 +1,6 @@
 -- The tables of a satellite: the records of each kind, in the order of their ids. And how one record changes.
 use Rattle.std.specs.Prelude.{ℕ, ◌*◌, ◌/◌, Bool, ◌==◌, ◌||◌, nat_lt, List, [], ◌∷◌, Option, Some, None, if◌then◌else◌}
+use Rattle.sat_base.specs.declared.limits.TheConstants as limits
 use Rattle.sat_base.specs.declared.ids.CustomerId.{CustomerId}
 use Rattle.sat_base.specs.declared.ids.SegId.{SegId}
 use Rattle.sat_base.specs.declared.settings.Settings.{Settings}
@@ -83,7 +84,7 @@ pub record Tables : Type 0 where
 
 -- the most bytes of a segment: as many whole stripes as a piece of 4 MiB has shares
 abbrev pub max_len_of : Setup → ℕ
-max_len_of setup = 4194304 / setup.share * setup.k * setup.share
+max_len_of setup = limits.PIECE / setup.share * setup.k * setup.share
 
 -- a size that no segment has
 abbrev pub is_no_size : Setup → ℕ → Bool

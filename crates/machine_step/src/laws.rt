@@ -5,7 +5,8 @@ ghost use Rattle.machine_calls.specs.declared.refusal.Refusal.{Refusal};
 ghost use Rattle.machine_calls.specs.declared.reply.Reply.TheVariants as replies;
 ghost use Rattle.machine_calls.specs.Replies.{is_lost, is_told};
 ghost use Rattle.machine_step.specs.Tables.{Tables};
-ghost use Rattle.machine_step.specs.Bounds.{IsValid};
+ghost use Rattle.machine_step.specs.Bounds.{Each, IsValid};
+ghost use Rattle.machine_step.specs.Writable.{IsWritable};
 ghost use Rattle.machine_step.specs.Step.{step, after, IsWellFormed};
 
 /// A refusal changes nothing at all.
@@ -25,4 +26,10 @@ pub fn each_step_is_answered()
 /// their records.
 pub fn each_step_keeps_the_rules()
     ensures { (t : Tables) (call : Call) → IsValid t → IsWellFormed t call → IsValid (after t call) }
+{}
+
+/// Each record that a step of a well-formed call changes is one that a store can be told: what it is set up with never
+/// changes, a plan that is removed is of a plan's kind, and lists have at most 128 items.
+pub fn each_change_can_be_written()
+    ensures { (t : Tables) (call : Call) → IsValid t → IsWellFormed t call → Each IsWritable (step t call).changes }
 {}

@@ -11,6 +11,7 @@
 //! - [`each_step_is_answered`]: by a reply that its caller is told, and never by one of a step that wasn't made.
 //! - [`each_step_keeps_the_rules`]: with the order of the rows and the bounds of the records, for a call that is well
 //!   formed.
+//! - [`each_change_can_be_written`]: what a step changes is within what a store's records hold.
 //!
 //! The tables name all sixteen kinds of records. Of those that no call makes yet (tallies, statements, plans,
 //! containments, nodes that left) the rules say that there are none.
@@ -20,4 +21,7 @@
 
 mod laws;
 
-pub use laws::{a_refusal_changes_nothing, each_step_is_answered, each_step_keeps_the_rules};
+pub use laws::{
+    a_refusal_changes_nothing, each_change_can_be_written, each_step_is_answered,
+    each_step_keeps_the_rules,
+};

@@ -15,6 +15,6 @@ mod node;
 mod reputation;
 mod table;
 
-pub use node::{Left, Node, Status, subnet};
+pub use node::{FIRST_ALPHA, Left, Node, Status, subnet};
 pub use reputation::{Outcome, after, reputation_stays_rated, score};
 pub use table::{AddErr, NodeTable};

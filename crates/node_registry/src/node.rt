@@ -1,5 +1,6 @@
-ghost use Rattle.std.specs.Prelude.{◌≡◌, ◌/◌};
+ghost use Rattle.std.specs.Prelude.{◌≡◌};
 ghost use Rattle.node_registry.specs.Standing.{byte_of, is_counted, is_serving};
+ghost use Rattle.node_registry.specs.Subnet.{subnet_at};
 
 use sat_base::{Moment, NodeId, Ranked};
 
@@ -67,6 +68,9 @@ impl Node {
     }
 }
 
+/// What the passes of a node weigh as it joins.
+pub const FIRST_ALPHA: u32 = 10_000;
+
 /// When an exited node left.
 #[derive(Clone, Copy, Debug, PartialEq, Eq)]
 pub struct Left {
@@ -87,7 +91,7 @@ impl Ranked for Left {
 
 /// The subnet of an IPv4 address: its first three bytes, as a number.
 pub fn subnet(addr: u32) -> u32
-    ensures { result ≡ addr / 256 }
+    ensures { result ≡ subnet_at addr }
 {
     addr >> 8
 }

@@ -14,7 +14,8 @@ use Rattle.order_limits.specs.declared.limit.Order.{Order}
 use Rattle.order_limits.specs.declared.read.OrderErr.{OrderErr}
 use Rattle.order_limits.specs.declared.read.OrderErr.TheVariants as no
 use Rattle.order_limits.specs.Order.{limit_body, limit_under, order_bytes, FitsLimit, FitsOrder, IsGoodLimit, IsGoodOrder}
-use Rattle.order_limits.specs.Read.{number_in, fields_of, is_tag_of, limit_of, order_of, ◌>>=◌}
+use Rattle.order_limits.specs.Read.{number_in, fields_of, is_tag_of, limit_of, order_of}
+use Rattle.sat_base.specs.Results.{◌>>=◌}
 use Rattle.order_limits.proofs.Pieces.{length-body, length-hmac, length-order_tag}
 use Rattle.order_limits.proofs.Fields.{IsBytes, test_ok, fields_found, fields_again, IsBytes-part, length-part, part-join, part-whole, word_back}
 

@@ -2,6 +2,7 @@
 use Rattle.std.specs.Prelude.{Bool, ℕ, List, length, slice_index, Option, Some, None, Result, Ok, Err, ◌==◌, if◌then◌else◌, nat_eq}
 use Rattle.std.specs.Cmp.Lexicographic.{pointwise}
 use Rattle.std.specs.Int.{Width, w32, w64, byte_len, from_be_bytes}
+use Rattle.sat_base.specs.Results.{◌>>=◌}
 use Rattle.order_limits.specs.Part.{part}
 use Rattle.order_limits.specs.Hmac.{hmac}
 use Rattle.order_limits.specs.Keys.{node_key, order_tag_of}
@@ -39,11 +40,6 @@ unfoldable pub fields_of : List ℕ → Result Limit OrderErr
 fields_of bytes =
     if slice_index bytes 0 == 1 then with_action (action_of (slice_index bytes 1)) bytes
     else Err (no.Version (slice_index bytes 0))
-
-infixl 10 ◌>>=◌
-abbrev pub ◌>>=◌ : {A B : Type 0} → Result A OrderErr → (A → Result B OrderErr) → Result B OrderErr
-(Ok x) >>= f = f x
-(Err e) >>= f = Err e
 
 abbrev pub is_tag_of : List ℕ → List ℕ → List ℕ → Bool
 is_tag_of tag key text = pointwise nat_eq tag (hmac key text)

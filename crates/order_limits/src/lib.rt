@@ -8,6 +8,8 @@
 //! - [`Limit::write`] and [`Order::write`] give exactly the bytes of the format.
 //! - [`read_order`] and [`read_limit`] read one exactly where the bytes are one (`found`, `only`), and otherwise tell
 //!   the first cause, in the order of [`OrderErr`] (`exact`).
+//! - [`Grant`] gives the limits of an offer or a plan, which expire after [`LIFE`]; an order can be settled for
+//!   [`SETTLE_TIME`] more.
 //!
 //! Nothing here takes memory.
 //!
@@ -16,11 +18,13 @@
 #![tactic(auto)]
 
 mod bytes;
+mod grant;
 mod keys;
 mod limit;
 mod mac;
 mod read;
 
+pub use grant::{Grant, LIFE, SETTLE_TIME};
 pub use keys::Keys;
 pub use limit::{Action, Limit, Order};
 pub use mac::hmac;

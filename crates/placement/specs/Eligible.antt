@@ -1,6 +1,7 @@
 -- Which nodes may be picked next, and which of them is.
-use Rattle.std.specs.Prelude.{ℕ, ◌%◌, Bool, true, false, ◌&&◌, not, List, [], ◌++◌, length, map, filter, Option, nat_eq, nat_le, nat_lt, slice_get, slice_index, ◌/◌}
+use Rattle.std.specs.Prelude.{ℕ, ◌%◌, Bool, true, false, ◌&&◌, not, List, [], ◌++◌, length, map, filter, Option, nat_eq, nat_le, nat_lt, slice_get, slice_index}
 use Rattle.std.specs.Set.{is_member, distinct_count}
+use Rattle.node_registry.specs.Subnet.{subnet_at}
 use Rattle.node_registry.specs.declared.node.Node.{Node}
 use Rattle.node_registry.specs.declared.node.Status.{Status}
 use Rattle.node_registry.specs.declared.node.Status.TheVariants.{Active, Disqualified, Exiting, Exited}
@@ -36,7 +37,7 @@ is_open terms node = is_active node.status && nat_le terms.piece_len node.free
 
 -- an address's first three bytes
 abbrev pub subnet_of : Node → ℕ
-subnet_of node = node.addr / 256
+subnet_of node = subnet_at node.addr
 
 -- the subnets in which no node may be picked after these picks
 abbrev pub used : Terms → List Node → List ℕ

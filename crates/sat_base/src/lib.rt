@@ -4,7 +4,8 @@
 //!   [`Clock`] and [`Words`]; storage nodes, [`Nodes`]; and what keeps rows, [`Keeper`]. Each has a form in memory,
 //!   which tells all.
 //! - **Time**: [`Moment`], [`Month`] and [`Hour`], and [`month_of`], the civil month in UTC of every moment.
-//! - **Records**: ids, the [`Scheme`] of coding, settings and marks, requests that are kept, rates, and lists as
+//! - **Records**: ids, the [`Scheme`] of coding, settings and marks, requests that are kept, rates, the bounds of all of
+//!   them in [`limits`], numbers of decimal digits ([`number`]), and lists as
 //!   [`Items`].
 //!
 //! What is told is one equation: what was left to read is what was taken, then what is left now. A source also tells
@@ -23,7 +24,8 @@
 mod ids;
 mod items;
 mod line;
-mod memory;
+mod no_memory;
+mod text;
 
 // Time
 mod moment;
@@ -31,6 +33,7 @@ mod month;
 
 // Records
 pub mod kinds;
+pub mod limits;
 mod ranked;
 mod rates;
 mod records;
@@ -45,26 +48,33 @@ mod row_list;
 mod rows;
 
 // The outside
-mod calls;
 mod clock;
 mod console;
+mod failing;
+mod gate;
+mod lane;
+mod mem_lane;
 mod mem_nodes;
 mod nodes;
 mod outside;
 mod streams;
+mod ticks;
 mod words;
 
 pub use clock::{Clock, MemClock};
 pub use console::{MemConsole, MemLink};
+pub use gate::{Gate, HoldGate, OpenGate, Point};
 pub use ids::{CustomerId, NodeId, SegId, Serial};
 pub use items::{Bytes, Indexes, Items, Share, Words64};
 pub use keeper::{Committed, Keeper, Loaded};
 pub use keeper_mem::KeeperMem;
+pub use lane::{Came, Lane};
 pub use line::Line;
+pub use mem_lane::MemLane;
 pub use mem_nodes::MemNodes;
-pub use memory::NoMemory;
 pub use moment::Moment;
 pub use month::{Hour, Month, month_of, months_follow_moments};
+pub use no_memory::NoMemory;
 pub use nodes::{Ask, Fetched, Held, Nodes, Stored};
 pub use outside::{Given, Link, Outside, ReadMade, Sink, Source, Taken};
 pub use ranked::Ranked;
@@ -75,4 +85,6 @@ pub use rows::{Change, Row};
 pub use scheme::{Scheme, SchemeErr};
 pub use settings::{Caps, Customer, Marks, Settings};
 pub use streams::{Filled, Filling, fill, write_all};
+pub use text::{cut, is_numeral, number, value_up_to};
+pub use ticks::{Beat, MemTicks, Ticks};
 pub use words::{Drawn, MemWords, Words};

@@ -1,10 +1,9 @@
 ghost use Rattle.std.specs.Prelude.{◌≡◌};
-ghost use Rattle.std.specs.Io.{ReadsAtMost, WritesAtMost};
 ghost use Rattle.sat_devices.specs.Faults.{Faults, device_about};
 
+use crate::once::{read_once, write_once};
 use sat_base::{Given, Link, Outside, Sink, Source, Taken};
-use std::io;
-use std::io::{ErrorKind, Read, Write};
+use std::io::{Read, Write};
 use std::marker::Model;
 
 /// A console over a reader and a writer, as standard input and output. Contracts see its counts of faults.
@@ -48,32 +47,6 @@ impl<R: Read + Drop, W: Write + Drop> Console<R, W> {
     {
         self.write_faults
     }
-}
-
-// Reads once. A read that a signal interrupted has taken nothing, and is made again.
-fn read_once<R: Read>(input: &mut R, buf: &mut [u8]) -> io::Result<usize>
-    ensures { ReadsAtMost result buf.new }
-{
-    for _ in 0..u64::MAX {
-        match input.read(buf) {
-            Err(e) if e.kind() == ErrorKind::Interrupted => {}
-            done => return done,
-        }
-    }
-    Err(io::Error::from(ErrorKind::Interrupted))
-}
-
-// Writes once. A write that a signal interrupted has given nothing, and is made again.
-fn write_once<W: Write>(output: &mut W, piece: &[u8]) -> io::Result<usize>
-    ensures { WritesAtMost result piece.now }
-{
-    for _ in 0..u64::MAX {
-        match output.write(piece) {
-            Err(e) if e.kind() == ErrorKind::Interrupted => {}
-            done => return done,
-        }
-    }
-    Err(io::Error::from(ErrorKind::Interrupted))
 }
 
 impl<R: Read + Drop, W: Write + Drop> Outside for Console<R, W> {

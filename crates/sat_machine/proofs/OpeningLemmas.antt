@@ -19,7 +19,8 @@ use Rattle.audit_core.specs.declared.rechecking.RecheckPlan.{RecheckPlan}
 use Rattle.repair_core.specs.declared.plan.RepairPlan.{RepairPlan}
 use Rattle.repair_core.specs.declared.plan.ExitPlan.{ExitPlan}
 use Rattle.machine_calls.specs.declared.parts.Parts0.{Parts0}
-use Rattle.machine_step.specs.Bounds.{Each, IsSetupWithin, AreMarksWithin, IsValid}
+use Rattle.sat_base.specs.Limits.{AreMarksWithin}
+use Rattle.machine_step.specs.Bounds.{Each, IsSetupWithin, IsValid}
 use Rattle.machine_step.specs.Tables.{Setup, Tables, setup_of}
 use Rattle.sat_base.specs.declared.settings.Marks.{Marks}
 use Rattle.sat_base.specs.declared.settings.Customer.{Customer}

@@ -12,7 +12,8 @@ use Rattle.node_registry.specs.Left.{left_rank}
 use Rattle.machine_step.specs.Tables.{Tables, setup_of}
 use Rattle.sat_base.specs.declared.kinds.TheConstants as kinds
 use Rattle.machine_calls.specs.declared.rules.TheConstants as rules
-use Rattle.machine_step.specs.Bounds.{Each, IsSetupWithin, AreMarksWithin, IsSegmentWithin, IsKeptWithin, IsTariffWithin}
+use Rattle.sat_base.specs.Limits.{AreMarksWithin, IsKeptWithin, IsTariffWithin}
+use Rattle.machine_step.specs.Bounds.{Each, IsSetupWithin, IsSegmentWithin}
 use Rattle.machine_step.specs.Rules.{Broken, broken, first_of, broken_tallies, broken_statements, broken_plan, broken_containments, broken_left, first_broken}
 use Rattle.sat_machine.specs.declared.opening.CoreErr.{CoreErr}
 use Rattle.sat_machine.specs.declared.opening.CoreErr.TheVariants as errs

@@ -1,6 +1,7 @@
 // The places of pieces.
 ghost use Rattle.std.specs.Prelude.{◌≡◌, ◌≤◌, length, IfOk};
 ghost use Rattle.machine_step.specs.Places.{pieces_from, place_at, places_of};
+ghost use Rattle.sat_base.specs.declared.limits.TheConstants as limits;
 
 use node_registry::NodeTable;
 use sat_base::{At, Items, NoMemory, NodeId, Place};
@@ -8,7 +9,7 @@ use std::alloc::Global;
 
 // Pieces at these nodes, their indexes counted up from 0.
 pub(crate) fn pieces(alloc: Global, ids: &[NodeId]) -> Result<Vec<At>, NoMemory>
-    requires { length ids.now ≤ 128 }
+    requires { length ids.now ≤ limits.PLACES }
     ensures { IfOk result (λ pieces. pieces.items ≡ pieces_from 0 ids.now) }
 {
     let mut pieces = Vec::with_capacity(alloc, ids.len())?;

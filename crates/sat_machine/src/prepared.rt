@@ -8,9 +8,6 @@ use machine_calls::{Asking, RecChange, Refusal, Reply, TableName};
 use sat_base::{Asked, Done, Kept, Marks, NoMemory};
 use std::alloc::Global;
 
-// From this number on no segment, serial or plan is numbered.
-pub(crate) const LAST_NUMBER: u64 = 1 << 63;
-
 /// The reply of a step, and the records that it changes, in order.
 #[derive(Drop)]
 pub struct Prepared {

@@ -1,6 +1,1 @@
-pub mod Cut
-pub mod Words
-pub mod Bounds
-pub mod Runs
-pub mod Shares
-pub mod Once
+pub mod Asking

@@ -1,11 +1,1 @@
-pub mod Lines
-pub mod Words
-pub mod Form
-pub mod Answers
-pub mod Once
-pub mod Judge
-pub mod Run
-pub mod Question
-pub mod Command
-pub mod Listening
-pub mod Speaking
+pub mod Making

@@ -1,35 +1,66 @@
 // The top call.
-ghost use Rattle.std.specs.Prelude.{◌≡◌, ◌≤◌, ◌↔◌, ◌⊎◌, ℕ, List, Some, None, MatchResult, length};
+ghost use Rattle.std.specs.Prelude.{◌≡◌, ◌≤◌, ◌↔◌, ◌⊎◌, ℕ, List, Some, None, MatchResult, length, false};
 ghost use Rattle.sat_base.specs.Outside.{Rose};
-ghost use Rattle.satellite_cli.specs.Answers.{IsSettleText, answers_to};
-ghost use Rattle.satellite_cli.specs.Command.{command_of};
-ghost use Rattle.satellite_cli.specs.Judge.{Judges, RefusesLine, shares_of};
-ghost use Rattle.satellite_cli.specs.Once.{SettlesOnce};
-ghost use Rattle.satellite_cli.specs.Run.{NoRefusal, Ran, Says, code_of, fault_line, max_input};
+ghost use Rattle.sat_base.specs.Rows.{Rows};
+ghost use Rattle.command_line.specs.Command.{NewStore, command_of, names_store};
+ghost use Rattle.command_line.specs.Command.Asked.{settle, judge, init};
+ghost use Rattle.sat_console.specs.Answers.{IsSettleText, answers_to};
+ghost use Rattle.sat_console.specs.Judge.{Judges, RefusesLine, shares_of};
+ghost use Rattle.sat_console.specs.Once.{SettlesOnce};
+ghost use Rattle.sat_console.specs.Run.{NoRefusal, Ran, Says, code_of, fault_line, max_input};
+ghost use Rattle.sat_init.specs.Init.{IsMade};
+ghost use Rattle.sat_init.specs.declared.setup.Setup.{Setup};
+ghost use Rattle.satellite_cli.specs.Making.{Inits, IsAsked};
 
-use crate::command::{Command, read_line};
-use crate::judge::{Judge, judged_scheme};
-use crate::run::{answer_input, fault};
-use crate::settle::Settle;
-use crate::status::Status;
-use order_limits::Keys;
-use sat_base::{Line, Link};
+use crate::making::make_store;
+use crate::world::{Ended, World};
+use command_line::{Command, LineErr, read_line};
+use sat_base::{Clock, Keeper, Line, Link, Words};
+use sat_console::{Status, fault, judge, settle};
+use sat_init::Setup;
 use std::alloc::Global;
 
-/// The devices of a run.
-#[derive(Drop)]
-pub struct World<C: Link> {
-    /// Where input is read, and answers and faults are written.
-    pub console: C,
+fn ended<C: Link, K: Keeper, T: Clock, W: Words>(
+    status: Status,
+    world: World<C, K, T, W>,
+) -> Ended<C, K, T, W>
+    ensures { result ≡ record { status = code_of status; world = world } }
+{
+    Ended {
+        status: status.code(),
+        world,
+    }
 }
 
-/// The end of a run.
-#[derive(Drop)]
-pub struct Ended<C: Link> {
-    /// The status that the process ends with, see [`Status`].
-    pub status: u8,
-    /// The devices, as the run left them.
-    pub world: World<C>,
+// `init` over a world.
+fn init_world<C: Link, K: Keeper, T: Clock, W: Words>(
+    alloc: Global,
+    setup: &Setup,
+    world: World<C, K, T, W>,
+) -> Ended<C, K, T, W>
+    ensures not_usage { result.status ≡ 2 → ⊥ }
+    ensures inits { Inits setup.now (record {
+      coming = T.coming world.clock;
+      coming_after = T.coming result.world.clock;
+      words = W.left world.words;
+      words_after = W.left result.world.words;
+    }) result.status (C.about world.console) (C.about result.world.console)
+        (K.faults world.keeper) (K.faults result.world.keeper)
+        (W.faults world.words) (W.faults result.world.words)
+        (K.is_open result.world.keeper × K.tells world.keeper) (K.rows world.keeper) (K.rows result.world.keeper) }
+    ensures crash { K.is_clean result.world.keeper → (m : Rows) → K.leaves result.world.keeper m → K.leaves world.keeper m
+        ⊎ (K.is_open world.keeper × IsMade setup.now (K.tells world.keeper) (K.rows world.keeper) m) }
+{
+    let mut world = world;
+    let status = make_store(
+        alloc,
+        setup,
+        &mut world.console,
+        &mut world.keeper,
+        &mut world.clock,
+        &mut world.words,
+    );
+    ended(status, world)
 }
 
 /// Runs the command that the words are, over the devices of a world.
@@ -37,21 +68,27 @@ pub struct Ended<C: Link> {
 /// `settle` reads orders from the console, one a line as `NODE MOMENT HEX`, and answers each with one line.
 /// `judge` reads the answers to an audit of one stripe, one a line as `INDEX HEX` by rising index, and writes one
 /// line, which says the indexes whose shares were altered. Both take an input of at most 1048576 bytes.
+/// `init` makes a store in the keeper, which has to have no rows, and writes the operator's key.
+///
 /// The status says how it ended; each has its cause. The console's faults are counted by it.
-pub fn satellite<C: Link>(alloc: Global, line: &Line, world: World<C>) -> Ended<C>
+pub fn satellite<C: Link, K: Keeper, T: Clock, W: Words>(
+    alloc: Global,
+    line: &Line,
+    world: World<C, K, T, W>,
+) -> Ended<C, K, T, W>
     // 2 exactly where the words are outside the grammar, and then the console says so.
     ensures usage { (result.status ≡ 2) ↔ (command_of line.now ≡ None) }
     ensures usage_line { command_of line.now ≡ None →
         Says (fault_line (code_of Status.Usage)) (C.about world.console) (C.about result.world.console) }
 
     // `settle`: what was read and written, and the cause of each status. It refuses no input.
-    ensures settle { (secret : List ℕ) (cap : ℕ) → command_of line.now ≡ Some (Command.Settle secret cap) →
+    ensures settle { (secret : List ℕ) (cap : ℕ) → command_of line.now ≡ Some (settle secret cap) →
         Ran (IsSettleText secret cap) NoRefusal
         (C.about world.console) (C.about result.world.console) result.status }
 
     // A short input and no fault: 0, or want of memory.
     ensures complete { (secret : List ℕ) (cap : ℕ) (bytes : List ℕ) →
-        command_of line.now ≡ Some (Command.Settle secret cap) →
+        command_of line.now ≡ Some (settle secret cap) →
         (C.about world.console).left ≡ Some bytes → length bytes ≤ max_input →
         (Rose (C.about world.console).read_faults (C.about result.world.console).read_faults → ⊥) →
         (Rose (C.about world.console).write_faults (C.about result.world.console).write_faults → ⊥) →
@@ -63,34 +100,72 @@ pub fn satellite<C: Link>(alloc: Global, line: &Line, world: World<C>) -> Ended<
 
     // `judge`: the same of the line that the verdict on the shares is. It refuses only an input of which a
     // line has another form or an index that doesn't rise.
-    ensures judge { (k size : ℕ) → command_of line.now ≡ Some (Command.Judge k size) →
+    ensures judge { (k size : ℕ) → command_of line.now ≡ Some (judge k size) →
         Ran (Judges k size) RefusesLine
         (C.about world.console) (C.about result.world.console) result.status }
 
     // A short input and no fault: by its lines 0 or 8, or want of memory.
     ensures judge_complete { (k size : ℕ) (bytes : List ℕ) →
-        command_of line.now ≡ Some (Command.Judge k size) →
+        command_of line.now ≡ Some (judge k size) →
         (C.about world.console).left ≡ Some bytes → length bytes ≤ max_input →
         (Rose (C.about world.console).read_faults (C.about result.world.console).read_faults → ⊥) →
         (Rose (C.about world.console).write_faults (C.about result.world.console).write_faults → ⊥) →
         MatchResult (shares_of bytes)
         (λ shares. (result.status ≡ 0) ⊎ (result.status ≡ 9))
         (λ number. (result.status ≡ 8) ⊎ (result.status ≡ 9)) }
+
+    // A command without a store leaves all but the console as it was.
+    ensures idle { names_store (command_of line.now) ≡ false →
+        (result.world.keeper ≡ world.keeper) × (result.world.clock ≡ world.clock) × (result.world.words ≡ world.words) }
+
+    // `init`: the store that was made, and the key that was written; or why there is none, and the keeper's rows as they were.
+    ensures init { (store : NewStore) → command_of line.now ≡ Some (init store) →
+        ((setup : Setup) × IsAsked store setup × Inits setup (record {
+          coming = T.coming world.clock;
+          coming_after = T.coming result.world.clock;
+          words = W.left world.words;
+          words_after = W.left result.world.words;
+        }) result.status (C.about world.console) (C.about result.world.console)
+        (K.faults world.keeper) (K.faults result.world.keeper)
+        (W.faults world.words) (W.faults result.world.words)
+        (K.is_open result.world.keeper × K.tells world.keeper) (K.rows world.keeper) (K.rows result.world.keeper))
+        ⊎ ((result.status ≡ 9) × (result.world.keeper ≡ world.keeper)
+        × Says (fault_line 9) (C.about world.console) (C.about result.world.console)) }
+
+    // A crash leaves the rows that the keeper might have left before, or those of the store that was to be made.
+    ensures crash { K.is_clean result.world.keeper → (m : Rows) → K.leaves result.world.keeper m → K.leaves world.keeper m
+        ⊎ ((setup : Setup) × K.is_open world.keeper × IsMade setup (K.tells world.keeper) (K.rows world.keeper) m) }
 {
     let mut world = world;
-    let status = match read_line(line) {
-        Ok(Command::Settle { secret, cap }) => {
-            let keys = Keys::new(secret);
-            answer_input(alloc, &mut world.console, &Settle { keys, cap })
+    let status = match read_line(alloc, line) {
+        Ok(Command::Settle { secret, cap }) => settle(alloc, &mut world.console, secret, cap),
+        Ok(Command::Judge { k, share }) => judge(alloc, &mut world.console, k, share),
+        Ok(
+            Command::Init {
+                store: _,
+                secret,
+                scheme,
+                vet,
+                fresh,
+                rates,
+                caps,
+            },
+        ) => {
+            let setup = Setup {
+                secret,
+                scheme,
+                vet,
+                fresh,
+                rates,
+                caps,
+            };
+            return init_world(alloc, &setup, world);
         }
-        Ok(Command::Judge { k, share }) => {
-            let scheme = judged_scheme(k, share);
-            answer_input(alloc, &mut world.console, &Judge { scheme })
+        Err(LineErr::Usage) => fault(&mut world.console, Status::Usage),
+        Err(LineErr::NoMemory) => {
+            let status = fault(&mut world.console, Status::NoMemory);
+            return ended(status, world);
         }
-        Err(_) => fault(&mut world.console, Status::Usage),
     };
-    Ended {
-        status: status.code(),
-        world,
-    }
+    ended(status, world)
 }

@@ -3,6 +3,7 @@ use Rattle.std.specs.Prelude.{◌≡◌, ℕ, ◌+◌, ◌-◌, ◌^◌, ◌≤�
 use Rattle.sat_base.specs.declared.ids.NodeId.{NodeId}
 use Rattle.order_limits.specs.Order.{IsGoodOrder}
 use Rattle.order_limits.specs.Read.{order_of}
+use Rattle.order_limits.specs.declared.grant.TheConstants.{SETTLE_TIME}
 use Rattle.order_limits.specs.declared.limit.Order.{Order}
 use Rattle.order_limits.specs.declared.read.OrderErr.{OrderErr}
 use Rattle.settlement.specs.declared.row.SettledRow.{SettledRow}
@@ -18,7 +19,7 @@ use Rattle.settlement.specs.Refusals.{as_settle}
 
 -- the last second at which an order can be settled: two days after its limit expires
 abbrev pub until_of : Order → ℕ
-until_of o = min (o.limit.expires + 172800) (2 ^ 64 - 1)
+until_of o = min (o.limit.expires + SETTLE_TIME) (2 ^ 64 - 1)
 
 -- the row that an order makes
 abbrev pub row_for : Order → ℕ → SettledRow

@@ -7,14 +7,11 @@ ghost use Rattle.settlement.specs.Settle.{fresh, order_settlable, settlable, set
 
 use crate::answer::{Settlable, SettleErr, Settling};
 use crate::row::{SettledRow, place_of};
-use order_limits::{Keys, Order, read_order};
+use order_limits::{Keys, Order, SETTLE_TIME, read_order};
 use rows::BlockRows;
 use sat_base::{Moment, NoMemory, NodeId, Serial};
 use std::alloc::Global;
 use std::marker::Model;
-
-// How long after its limit's expiry an order can be settled, in seconds: two days.
-const SETTLE_SECONDS: u64 = 172800;
 
 /// The settled orders of a store: one row for each pair of a serial and a node, in their order.
 ///
@@ -104,7 +101,7 @@ impl Settled {
     {
         let limit = order.limit;
         let amount = order.amount;
-        let until = limit.expires.saturating_add(SETTLE_SECONDS);
+        let until = limit.expires.saturating_add(SETTLE_TIME);
         if until < now.seconds() {
             return Err(SettleErr::Late { until });
         }

@@ -8,7 +8,8 @@ use Rattle.tally_payout.specs.Ranks.{tally_rank, statement_rank}
 use Rattle.node_registry.specs.Left.{left_rank}
 use Rattle.sat_base.specs.declared.settings.Settings.{Settings}
 use Rattle.machine_calls.specs.declared.parts.Parts0.{Parts0}
-use Rattle.machine_step.specs.Bounds.{Each, IsSetupWithin, AreMarksWithin, IsSegmentWithin, IsKeptWithin, IsTariffWithin}
+use Rattle.sat_base.specs.Limits.{AreMarksWithin, IsKeptWithin, IsTariffWithin}
+use Rattle.machine_step.specs.Bounds.{Each, IsSetupWithin, IsSegmentWithin}
 use Rattle.machine_step.specs.Tables.{setup_of}
 use Rattle.machine_step.specs.Rules.{Broken}
 use Rattle.sat_machine.specs.Opening.{NamesSome}

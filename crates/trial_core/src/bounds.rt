@@ -1,9 +1,10 @@
 // The bounds of each record beside the rules of the tables.
 ghost use Rattle.std.specs.Prelude.{◌≡◌, ◌↔◌, ◌≤◌, IsTrue};
-ghost use Rattle.machine_step.specs.Bounds.{Each, IsMonthWithin, AreCapsWithin, IsSetupWithin, AreMarksWithin, IsSegmentWithin, IsAskedWithin, IsDoneWithin, IsKeptWithin, IsTariffWithin};
+ghost use Rattle.sat_base.specs.Limits.{AreMarksWithin, IsAskedWithin, IsDoneWithin, IsKeptWithin, IsTariffWithin};
+ghost use Rattle.machine_step.specs.Bounds.{Each, IsSetupWithin, IsSegmentWithin};
 ghost use Rattle.machine_step.specs.Tables.{setup_of};
 
-use sat_base::{Asked, Caps, Done, Kept, Marks, Month, Settings, Tariff};
+use sat_base::{Asked, Done, Kept, Marks, Settings, Tariff, limits};
 use segment_core::Segment;
 
 // A record with bounds.
@@ -27,40 +28,15 @@ pub(crate) fn are_within<R: Bounded>(rows: &[R]) -> bool
     true
 }
 
-// From January 1970 to December 4147.
-fn is_month(month: Month) -> bool
-    ensures { IsTrue result ↔ IsMonthWithin month.0 }
-{
-    (23640..=49775).contains(&month.0)
-}
-
-// At least 1, and at most so many.
-fn is_cap(cap: u32, most: u32) -> bool
-    ensures { IsTrue result ↔ (1 ≤ cap) × (cap ≤ most) }
-{
-    1 <= cap && cap <= most
-}
-
-fn are_caps(caps: &Caps) -> bool
-    ensures { IsTrue result ↔ AreCapsWithin caps.now }
-{
-    is_cap(caps.nodes, 65_536)
-        && is_cap(caps.customers, 65_536)
-        && is_cap(caps.segments, 262_144)
-        && is_cap(caps.settled, 4_194_304)
-        && is_cap(caps.tallies, 4_194_304)
-        && is_cap(caps.statements, 1_048_576)
-}
-
 impl Bounded for Settings {
     ghost bounds = { λ s. IsSetupWithin (setup_of s) };
 
     fn is_within(&self) -> bool {
         self.vet >= 1
-            && self.vet <= 1000
+            && self.vet <= limits::VET
             && self.fresh <= 100
-            && are_caps(&self.caps)
-            && is_month(self.first_month)
+            && self.caps.are_within()
+            && self.first_month.is_within()
     }
 }
 
@@ -69,7 +45,7 @@ impl Bounded for Marks {
 
     fn is_within(&self) -> bool {
         let _seconds = self.time.seconds();
-        is_month(self.month) && self.hour.0 <= 1 << 36
+        self.month.is_within() && self.hour.0 <= limits::LAST_HOUR
     }
 }
 
@@ -77,7 +53,7 @@ impl Bounded for Segment {
     ghost bounds = { IsSegmentWithin };
 
     fn is_within(&self) -> bool {
-        self.pieces.len() <= 128
+        self.pieces.len() <= limits::PLACES as usize
     }
 }
 
@@ -85,7 +61,7 @@ fn is_asked(asked: &Asked) -> bool
     ensures { IsTrue result ↔ IsAskedWithin asked.now }
 {
     match asked {
-        Asked::Commit { indexes, .. } => indexes.len() <= 128,
+        Asked::Commit { indexes, .. } => indexes.len() <= limits::PLACES as usize,
         _ => true,
     }
 }
@@ -94,7 +70,7 @@ fn is_done(done: &Done) -> bool
     ensures { IsTrue result ↔ IsDoneWithin done.now }
 {
     match done {
-        Done::Offer(offer) => offer.places.len() <= 128,
+        Done::Offer(offer) => offer.places.len() <= limits::PLACES as usize,
         _ => true,
     }
 }
@@ -111,11 +87,6 @@ impl Bounded for Tariff {
     ghost bounds = { IsTariffWithin };
 
     fn is_within(&self) -> bool {
-        let most = 1_000_000_000;
-        is_month(self.from)
-            && self.rates.get <= most
-            && self.rates.audit <= most
-            && self.rates.repair <= most
-            && self.rates.storage <= most
+        self.from.is_within() && self.rates.are_within()
     }
 }

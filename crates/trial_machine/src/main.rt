@@ -15,11 +15,6 @@
 //! The machine's cases are its stored input and output. Nothing is promised beyond the contracts of the machine.
 #![tactic(auto)]
 
-mod calls;
-mod orders;
-mod records;
-mod refusals;
-mod segments;
 mod session;
 mod telling;
 

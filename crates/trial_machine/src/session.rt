@@ -1,12 +1,11 @@
 // What is tried: the records of a store that are noted, and then its machine.
-use crate::calls::call;
-use crate::records::{clear, put_record, record_of};
-use crate::telling::{told, told_open};
+use crate::telling::told_open;
 use machine_calls::Parts0;
 use order_limits::Keys;
 use sat_base::NoMemory;
 use std::alloc::Global;
 use std::mem;
+use trial_calls::{call, clear, put_record, record_of, told};
 use trial_core::{OpenErr, Trial};
 use trial_lines::{Fields, LineErr};
 

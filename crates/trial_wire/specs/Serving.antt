@@ -8,12 +8,12 @@ use Rattle.machine_step.specs.Step.{step, after}
 use Rattle.machine_calls.specs.declared.call.Call.{Call}
 use Rattle.machine_calls.specs.declared.reply.Reply.{Reply}
 use Rattle.machine_calls.specs.declared.reply.Reply.TheVariants as replies
-use Rattle.satellite_cli.specs.Listening.{Told, Hears, failed_to_draw, failed_to_read}
-use Rattle.satellite_cli.specs.Speaking.{Tells}
-use Rattle.satellite_cli.specs.declared.listening.Listened.{Listened}
-use Rattle.satellite_cli.specs.declared.listening.Listened.TheVariants as listens
-use Rattle.satellite_cli.specs.declared.speaking.Said.{Said}
-use Rattle.satellite_cli.specs.declared.speaking.Said.TheVariants as said
+use Rattle.sat_rounds.specs.Listening.{Told, Hears, failed_to_draw, failed_to_read}
+use Rattle.sat_rounds.specs.Speaking.{Tells}
+use Rattle.sat_rounds.specs.declared.listening.Listened.{Listened}
+use Rattle.sat_rounds.specs.declared.listening.Listened.TheVariants as listens
+use Rattle.sat_rounds.specs.declared.speaking.Said.{Said}
+use Rattle.sat_rounds.specs.declared.speaking.Said.TheVariants as said
 
 -- the reply of a call's step, or memory is wanting and nothing changes
 abbrev pub Replies : Tables → Tables → Call → Reply → Type 0

@@ -2,9 +2,9 @@
 ghost use Rattle.std.specs.Prelude.{◌≡◌, true};
 ghost use Rattle.std.specs.Option.{ForSome};
 ghost use Rattle.machine_calls.specs.Replies.{is_sayable};
-ghost use Rattle.satellite_cli.specs.Speaking.{IsSayable};
+ghost use Rattle.sat_rounds.specs.Speaking.{IsSayable};
 ghost use Rattle.machine_step.specs.Step.{IsFormed};
-ghost use Rattle.satellite_cli.specs.Listening.{IfCall};
+ghost use Rattle.sat_rounds.specs.Listening.{IfCall};
 ghost use Rattle.trial_wire.specs.Serving.{Serves, IsAnswered, IsSaid, Replies};
 
 use crate::records::SECRET;
@@ -12,7 +12,7 @@ use anyhow::{Result, bail};
 use machine_calls::{Call, Parts0, Reply};
 use order_limits::Keys;
 use sat_base::{Clock, Link, NoMemory, Words};
-use satellite_cli::{Listened, Said, listen, speak};
+use sat_rounds::{Listened, Said, listen, speak};
 use std::alloc::Global;
 use trial_core::Trial;
 

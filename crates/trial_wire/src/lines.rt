@@ -4,7 +4,7 @@ use crate::records::{SECRET, parts_of};
 use anyhow::bail;
 use order_limits::Keys;
 use sat_base::{MemClock, MemLink, MemWords, NoMemory};
-use satellite_cli::{Said, speak};
+use sat_rounds::{Said, speak};
 use std::alloc::Global;
 use trial_lines::{Fields, LineErr, bytes_of, text_of};
 

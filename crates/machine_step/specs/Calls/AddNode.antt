@@ -2,6 +2,7 @@
 use Rattle.std.specs.Prelude.{ℕ, ◌+◌, [], ◌∷◌, length, nat_le}
 use Rattle.sat_base.specs.declared.requests.Asked.TheVariants as asks
 use Rattle.sat_base.specs.declared.requests.Done.TheVariants as dones
+use Rattle.node_registry.specs.declared.node.TheConstants.{FIRST_ALPHA}
 use Rattle.node_registry.specs.declared.node.Node.{Node}
 use Rattle.node_registry.specs.declared.node.Status.TheVariants.{Active}
 use Rattle.machine_calls.specs.declared.asking.Asking.{Asking}
@@ -19,7 +20,7 @@ new_node id addr port free time = record {
   port = port;
   free = free;
   joined = time;
-  alpha = 10000;
+  alpha = FIRST_ALPHA;
   beta = 0;
   passes = 0;
   status = Active;

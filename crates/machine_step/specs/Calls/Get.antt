@@ -1,5 +1,6 @@
 -- A customer is told where the healthy pieces of its live segment lie.
 use Rattle.std.specs.Prelude.{◌+◌, ◌^◌, List, [], length, filter, ◌==◌, nat_lt, nat_le}
+use Rattle.sat_base.specs.declared.limits.TheConstants as limits
 use Rattle.sat_base.specs.declared.ids.SegId.{SegId}
 use Rattle.sat_base.specs.declared.records.At.{At}
 use Rattle.sat_base.specs.declared.requests.Asked.TheVariants as asks
@@ -39,5 +40,5 @@ get t asking segment =
     (with_record (owned_at t.segments asking.caller segment) (refusals.NoSegment segment) (λ found.
     unless (found.version == 0) (refusals.NoSegment segment)
     (unless (nat_lt (length (healthy_of t found)) t.setup.k) (refusals.TooFew (length (healthy_of t found)) t.setup.k)
-    (unless (nat_le (2 ^ 63) t.marks.serial) (refusals.TableFull names.Numbers)
+    (unless (nat_le limits.LAST_NUMBER t.marks.serial) (refusals.TableFull names.Numbers)
     (offered t asking segment found)))))

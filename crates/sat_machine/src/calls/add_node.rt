@@ -8,12 +8,9 @@ use crate::answers::caller_answer;
 use crate::prepared::{Prepared, done_with, table_full};
 use crate::store::Store;
 use machine_calls::{Asking, RecChange, TableName};
-use node_registry::{Node, Status};
+use node_registry::{FIRST_ALPHA, Node, Status};
 use sat_base::{Asked, Done, NoMemory, NodeId};
 use std::alloc::Global;
-
-// What a node weighs as it joins.
-const FIRST_ALPHA: u32 = 10000;
 
 pub(crate) fn add_node(
     alloc: Global,

@@ -5,15 +5,18 @@ ghost use Rattle.machine_step.specs.Tables.{is_no_size};
 ghost use Rattle.machine_step.specs.Calls.Begin.{pending_of, offered_for, has_no_number, begun, begin_placed, begin};
 ghost use Rattle.sat_machine.specs.Prepared.{Holds};
 ghost use Rattle.sat_machine.specs.Store.{tables_of};
+ghost use Rattle.sat_base.specs.declared.limits.TheConstants as limits;
 
 use crate::answers::customer_answer;
 use crate::places::{pieces, places};
-use crate::prepared::{LAST_NUMBER, Prepared, done_with, refused, table_full};
+use crate::prepared::{Prepared, done_with, refused, table_full};
 use crate::store::Store;
 use machine_calls::{Asking, RecChange, Refusal, TableName};
 use order_limits::Action;
 use placement::{PlaceErr, place};
-use sat_base::{Asked, CustomerId, Done, Items, Marks, NoMemory, NodeId, Offer, SegId, Serial};
+use sat_base::{
+    Asked, CustomerId, Done, Items, Marks, NoMemory, NodeId, Offer, SegId, Serial, limits,
+};
 use segment_core::Segment;
 use std::alloc::Global;
 
@@ -25,7 +28,7 @@ fn pending(
     len: u64,
     ids: &[NodeId],
 ) -> Result<Segment, NoMemory>
-    requires { length ids.now ≤ 128 }
+    requires { length ids.now ≤ limits.PLACES }
     ensures { IfOk result (λ segment. segment ≡ pending_of store.now.marks.segment customer len ids.now) }
 {
     let pieces = pieces(alloc, ids)?;
@@ -50,7 +53,7 @@ fn begun(
     requires valid { IsValid (tables_of store.now) }
     requires size { is_no_size (tables_of store.now).setup len ≡ false }
     requires number { has_no_number (tables_of store.now) ≡ false }
-    requires few { length ids.now ≤ 128 }
+    requires few { length ids.now ≤ limits.PLACES }
     requires ids { ids.now ≡ offered_for (tables_of store.now) len words.now }
     ensures { IfOk result (λ p. Holds p (begun (tables_of store.now) asking.now len words.now)) }
 {
@@ -89,7 +92,7 @@ fn begin_placed(
     words: &[u64],
 ) -> Result<Prepared, NoMemory>
     requires valid { IsValid (tables_of store.now) }
-    requires words { length words.now ≡ 128 }
+    requires words { length words.now ≡ limits.WORDS }
     requires size { is_no_size (tables_of store.now).setup len ≡ false }
     requires number { has_no_number (tables_of store.now) ≡ false }
     ensures { IfOk result (λ p. Holds p (begin_placed (tables_of store.now) asking.now len words.now)) }
@@ -122,7 +125,7 @@ pub(crate) fn begin(
     words: &[u64],
 ) -> Result<Prepared, NoMemory>
     requires valid { IsValid (tables_of store.now) }
-    requires words { length words.now ≡ 128 }
+    requires words { length words.now ≡ limits.WORDS }
     ensures { IfOk result (λ p. Holds p (begin (tables_of store.now) asking.now len words.now)) }
 {
     let asked = Asked::Begin { len };
@@ -138,7 +141,7 @@ pub(crate) fn begin(
     if store.segments.len() >= settings.caps.segments as usize {
         return Ok(table_full(alloc, TableName::Segments));
     }
-    if store.marks.segment >= LAST_NUMBER || store.marks.serial >= LAST_NUMBER {
+    if store.marks.segment >= limits::LAST_NUMBER || store.marks.serial >= limits::LAST_NUMBER {
         return Ok(table_full(alloc, TableName::Numbers));
     }
     begin_placed(alloc, store, asking, len, words)

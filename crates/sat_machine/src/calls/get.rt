@@ -5,14 +5,15 @@ ghost use Rattle.machine_step.specs.Tables.{owned_at};
 ghost use Rattle.machine_step.specs.Calls.Get.{healthy_of, offered, get};
 ghost use Rattle.sat_machine.specs.Prepared.{Holds};
 ghost use Rattle.sat_machine.specs.Store.{tables_of};
+ghost use Rattle.sat_base.specs.declared.limits.TheConstants as limits;
 
 use crate::answers::customer_answer;
 use crate::places::places;
-use crate::prepared::{LAST_NUMBER, Prepared, done_with, refused, table_full};
+use crate::prepared::{Prepared, done_with, refused, table_full};
 use crate::store::Store;
 use machine_calls::{Asking, Refusal, TableName};
 use order_limits::Action;
-use sat_base::{Asked, At, Done, Marks, NoMemory, Offer, SegId, Serial};
+use sat_base::{Asked, At, Done, Marks, NoMemory, Offer, SegId, Serial, limits};
 use segment_core::{Segment, healthy};
 use std::alloc::Global;
 
@@ -27,7 +28,7 @@ fn offered(
 ) -> Result<Prepared, NoMemory>
     requires valid { IsValid (tables_of store.now) }
     requires found { owned_at (tables_of store.now).segments asking.now.caller segment ≡ Some found.now }
-    requires number { store.now.marks.serial < 2 ^ 63 }
+    requires number { store.now.marks.serial < limits.LAST_NUMBER }
     requires pieces { pieces.now ≡ healthy_of (tables_of store.now) found.now }
     ensures { IfOk result (λ p. Holds p (offered (tables_of store.now) asking.now segment found.now)) }
 {
@@ -74,7 +75,7 @@ pub(crate) fn get(
         let have = pieces.len() as u8;
         return Ok(refused(alloc, Refusal::TooFew { have, need }));
     }
-    if store.marks.serial >= LAST_NUMBER {
+    if store.marks.serial >= limits::LAST_NUMBER {
         return Ok(table_full(alloc, TableName::Numbers));
     }
     offered(alloc, store, asking, segment, found, pieces.as_slice())

@@ -1,29 +1,49 @@
-use Rattle.std.proofs.Common.{◌≡◌, Some, sym, rules}
-use Rattle.satellite_cli.specs.Command.{command_of}
-use Rattle.satellite_cli.specs.declared.command.Command.TheVariants.{Judge}
-use Rattle.satellite_cli.proofs.Bounds.{judge_within}
-use Rattle.satellite_cli.proofs.Once.{settles_once}
-use Rattle.satellite_cli.proofs.Runs.{judges_through}
+use Rattle.std.proofs.Common.{◌≡◌, inl, inr, refl, rules}
+use Rattle.sat_console.proofs.Once.{settles_once}
+use Rattle.sat_console.proofs.Runs.{judges_through, settles_through}
+use Rattle.sat_init.specs.declared.setup.Setup.{Setup}
+use Rattle.satellite_cli.proofs.Asking.{is_asked}
 use Rattle.satellite_cli.proofs.top.satellite.Goals as goal
 
-pub judged_scheme-scheme-requires-clause-k : goal.judged_scheme-scheme-requires-clause-k
-judged_scheme-scheme-requires-clause-k g c =
-    let is : command_of c.args.line.now ≡ Some (Judge c.in-Ok-Judge.k c.in-Ok-Judge.share) = sym (rw c.in-Ok-Judge.field-0-is at c.in-Ok-Judge.ensures.command) in
-    let within = judge_within c.args.line.now c.in-Ok-Judge.k c.in-Ok-Judge.share is in
-    (within.some_k, within.few_k)
+pub returns-in-Ok-Init-clause-once : goal.returns-in-Ok-Init-clause-once
+returns-in-Ok-Init-clause-once g c = settles_once
 
-pub judged_scheme-scheme-requires-clause-share : goal.judged_scheme-scheme-requires-clause-share
-judged_scheme-scheme-requires-clause-share g c =
-    let is : command_of c.args.line.now ≡ Some (Judge c.in-Ok-Judge.k c.in-Ok-Judge.share) = sym (rw c.in-Ok-Judge.field-0-is at c.in-Ok-Judge.ensures.command) in
-    let within = judge_within c.args.line.now c.in-Ok-Judge.k c.in-Ok-Judge.share is in
-    (within.some_bytes, within.few_bytes)
+pub returns-in-Ok-Init-clause-init : goal.returns-in-Ok-Init-clause-init
+returns-in-Ok-Init-clause-init g c = λ store is.
+    inl (_, is_asked _ _ _ _ _ _ _ c.args.line.now store (rw c.in-Ok-Init.field-0-is at c.in-Ok-Init.ensures.command) is, c.init_world.ensures.inits)
+
+pub returns-in-Ok-Init-clause-crash : goal.returns-in-Ok-Init-clause-crash
+returns-in-Ok-Init-clause-crash g c =
+    let given = c.in-Ok-Init in
+    let setup : Setup = record {
+      secret = given.secret;
+      scheme = given.scheme;
+      vet = given.vet;
+      fresh = given.fresh;
+      rates = given.rates;
+      caps = given.caps;
+    } in
+    λ clean m left. elim (c.init_world.ensures.crash clean m left) [
+      | inl before ↦ inl before
+      | inr made ↦ inr (setup, made.0, made.1)
+    ]
+
+pub returns-in-Err-NoMemory-clause-once : goal.returns-in-Err-NoMemory-clause-once
+returns-in-Err-NoMemory-clause-once g c = settles_once
+
+pub returns-clause-settle : goal.returns-clause-settle
+returns-clause-settle g c = search rules
 
 pub returns-clause-judge : goal.returns-clause-judge
 returns-clause-judge g c = search rules
 
-pub returns-clause-judge_complete : goal.returns-clause-judge_complete
-returns-clause-judge_complete g c = λ k size bytes is told short no_read no_write.
-    judges_through k size _ _ _ bytes (returns-clause-judge g c k size is) told short no_read no_write
+pub returns-clause-complete : goal.returns-clause-complete
+returns-clause-complete g c = λ secret cap bytes is told short no_read no_write.
+    settles_through secret cap _ _ _ bytes (returns-clause-settle g c secret cap is) told short no_read no_write
 
 pub returns-clause-once : goal.returns-clause-once
 returns-clause-once g c = settles_once
+
+pub returns-clause-judge_complete : goal.returns-clause-judge_complete
+returns-clause-judge_complete g c = λ k size bytes is told short no_read no_write.
+    judges_through k size _ _ _ bytes (returns-clause-judge g c k size is) told short no_read no_write

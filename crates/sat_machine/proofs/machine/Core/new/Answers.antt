@@ -1,4 +1,5 @@
-use Rattle.machine_step.specs.Bounds.{IsSetupWithin, AreMarksWithin}
+use Rattle.sat_base.specs.Limits.{AreMarksWithin}
+use Rattle.machine_step.specs.Bounds.{IsSetupWithin}
 use Rattle.machine_step.specs.Tables.{setup_of}
 use Rattle.sat_base.specs.declared.settings.Settings.{Settings}
 use Rattle.sat_machine.proofs.OpeningLemmas.{within_last, ready_made}

@@ -1,0 +1,223 @@
+-- The commands, and the words that ask for them.
+use Rattle.std.specs.Prelude.{Bool, true, false, ℕ, ◌≤◌, List, [], ◌∷◌, Option, Some, None, codes, is_none, option_map, if◌then◌else◌}
+use Rattle.sat_base.specs.declared.limits.TheConstants as limits
+use Rattle.sat_base.specs.declared.rates.Rates.{Rates}
+use Rattle.sat_base.specs.declared.scheme.Scheme.{Scheme}
+use Rattle.sat_base.specs.declared.settings.Caps.{Caps}
+use Rattle.sat_base.specs.Scheme.{first_broken}
+use Rattle.sat_base.specs.Text.{same}
+use Rattle.command_line.specs.declared.bounds.TheConstants as bounds
+use Rattle.command_line.specs.declared.command.Command.{Command}
+use Rattle.command_line.specs.declared.command.Command.TheVariants as commands
+use Rattle.command_line.specs.Pairs.{is_form, value_of}
+use Rattle.command_line.specs.Values.{number_or, number_within, secret_of, secret_or_none}
+
+-- ---- what is asked for, in plain numbers
+
+pub record Numbers : Type 0 where
+  pub k : ℕ
+  pub m : ℕ
+  pub o : ℕ
+  pub n : ℕ
+  pub share : ℕ
+
+pub record NewStore : Type 0 where
+  pub store : List ℕ
+  pub secret : Option (List ℕ)
+  pub scheme : Numbers
+  pub vet : ℕ
+  pub fresh : ℕ
+  pub rates : Rates
+  pub caps : Caps
+
+pub data Asked : Type 0 where
+  settle : (secret : List ℕ) (cap : ℕ) → Asked
+  judge : (k share : ℕ) → Asked
+  init : NewStore → Asked
+
+abbrev pub numbers_of : Scheme → Numbers
+numbers_of scheme = record { k = scheme.k; m = scheme.m; o = scheme.o; n = scheme.n; share = scheme.share }
+
+-- what a command asks for
+abbrev pub asked : Command → Asked
+asked (commands.Settle secret cap) = settle secret cap
+asked (commands.Judge k share) = judge k share
+asked (commands.Init store secret scheme vet fresh rates caps) = init (record {
+  store = store;
+  secret = secret;
+  scheme = numbers_of scheme;
+  vet = vet;
+  fresh = fresh;
+  rates = rates;
+  caps = caps;
+})
+
+-- the numbers of a command are within their bounds
+abbrev pub IsWithin : Command → Type 0
+IsWithin (commands.Judge k share) = (1 ≤ k) × (k ≤ bounds.JUDGED) × (1 ≤ share) × (share ≤ limits.SHARE)
+IsWithin _ = Unit {0}
+
+-- ---- settle
+
+abbrev pub settle_names : List (List ℕ)
+settle_names = codes "--secret" ∷ codes "--cap" ∷ []
+
+abbrev pub settle_with : Option (List ℕ) → Option ℕ → Option Asked
+settle_with None cap = None
+settle_with (Some secret) None = None
+settle_with (Some secret) (Some cap) = Some (settle secret cap)
+
+-- what the words behind `settle` ask for
+unfoldable pub settle_of : List (List ℕ) → Option Asked
+settle_of words =
+    if is_form settle_names words
+    then settle_with (secret_of (value_of (codes "--secret") words))
+    (number_or limits.SETTLED 1 limits.SETTLED (value_of (codes "--cap") words))
+    else None
+
+-- ---- judge
+
+abbrev pub judge_names : List (List ℕ)
+judge_names = codes "--k" ∷ codes "--share" ∷ []
+
+abbrev pub judge_with : Option ℕ → Option ℕ → Option Asked
+judge_with None share = None
+judge_with (Some k) None = None
+judge_with (Some k) (Some share) = Some (judge k share)
+
+-- what the words behind `judge` ask for
+unfoldable pub judge_of : List (List ℕ) → Option Asked
+judge_of words =
+    if is_form judge_names words
+    then judge_with (number_within 1 bounds.JUDGED (value_of (codes "--k") words))
+    (number_within 1 limits.SHARE (value_of (codes "--share") words))
+    else None
+
+-- ---- init
+
+abbrev pub init_names : List (List ℕ)
+init_names = codes "--store" ∷ codes "--secret" ∷ codes "--k" ∷ codes "--m" ∷ codes "--o" ∷ codes "--n" ∷ codes "--share"
+    ∷ codes "--vet" ∷ codes "--fresh" ∷ codes "--get" ∷ codes "--audit" ∷ codes "--repair" ∷ codes "--storage"
+    ∷ codes "--cap-nodes" ∷ codes "--cap-customers" ∷ codes "--cap-segments" ∷ codes "--cap-settled"
+    ∷ codes "--cap-tallies" ∷ codes "--cap-statements" ∷ []
+
+-- numbers that break no rule of a scheme
+abbrev pub sound : Numbers → Option Numbers
+sound s = if is_none (first_broken s.k s.m s.o s.n s.share) then Some s else None
+
+abbrev pub scheme_with : Option ℕ → Option ℕ → Option ℕ → Option ℕ → Option ℕ → Option Numbers
+scheme_with None m o n share = None
+scheme_with (Some k) None o n share = None
+scheme_with (Some k) (Some m) None n share = None
+scheme_with (Some k) (Some m) (Some o) None share = None
+scheme_with (Some k) (Some m) (Some o) (Some n) None = None
+scheme_with (Some k) (Some m) (Some o) (Some n) (Some share) =
+    sound (record { k = k; m = m; o = o; n = n; share = share })
+
+-- a number of pieces
+abbrev pub pieces_of : List ℕ → List (List ℕ) → Option ℕ
+pieces_of name words = number_within 1 limits.PLACES (value_of name words)
+
+unfoldable pub scheme_of : List (List ℕ) → Option Numbers
+scheme_of words =
+    scheme_with (pieces_of (codes "--k") words) (pieces_of (codes "--m") words) (pieces_of (codes "--o") words)
+    (pieces_of (codes "--n") words) (number_or bounds.USUAL_SHARE 1 limits.SHARE (value_of (codes "--share") words))
+
+abbrev pub rates_with : Option ℕ → Option ℕ → Option ℕ → Option ℕ → Option Rates
+rates_with None audit repair storage = None
+rates_with (Some get) None repair storage = None
+rates_with (Some get) (Some audit) None storage = None
+rates_with (Some get) (Some audit) (Some repair) None = None
+rates_with (Some get) (Some audit) (Some repair) (Some storage) =
+    Some (record { get = get; audit = audit; repair = repair; storage = storage })
+
+-- a rate, or the usual one
+abbrev pub rate_of : ℕ → List ℕ → List (List ℕ) → Option ℕ
+rate_of usual name words = number_or usual 0 limits.RATE (value_of name words)
+
+unfoldable pub rates_of : List (List ℕ) → Option Rates
+rates_of words =
+    rates_with (rate_of bounds.USUAL_GET (codes "--get") words) (rate_of bounds.USUAL_AUDIT (codes "--audit") words)
+    (rate_of bounds.USUAL_REPAIR (codes "--repair") words) (rate_of bounds.USUAL_STORAGE (codes "--storage") words)
+
+abbrev pub caps_with : Option ℕ → Option ℕ → Option ℕ → Option ℕ → Option ℕ → Option ℕ → Option Caps
+caps_with None customers segments settled tallies statements = None
+caps_with (Some nodes) None segments settled tallies statements = None
+caps_with (Some nodes) (Some customers) None settled tallies statements = None
+caps_with (Some nodes) (Some customers) (Some segments) None tallies statements = None
+caps_with (Some nodes) (Some customers) (Some segments) (Some settled) None statements = None
+caps_with (Some nodes) (Some customers) (Some segments) (Some settled) (Some tallies) None = None
+caps_with (Some nodes) (Some customers) (Some segments) (Some settled) (Some tallies) (Some statements) = Some (record {
+  nodes = nodes;
+  customers = customers;
+  segments = segments;
+  settled = settled;
+  tallies = tallies;
+  statements = statements;
+})
+
+-- a cap, the greatest one where it isn't named
+abbrev pub cap_of : ℕ → List ℕ → List (List ℕ) → Option ℕ
+cap_of most name words = number_or most 1 most (value_of name words)
+
+unfoldable pub caps_of : List (List ℕ) → Option Caps
+caps_of words =
+    caps_with (cap_of limits.NODES (codes "--cap-nodes") words) (cap_of limits.CUSTOMERS (codes "--cap-customers") words)
+    (cap_of limits.SEGMENTS (codes "--cap-segments") words) (cap_of limits.SETTLED (codes "--cap-settled") words)
+    (cap_of limits.TALLIES (codes "--cap-tallies") words) (cap_of limits.STATEMENTS (codes "--cap-statements") words)
+
+-- the secret, when a node is vetted, and the share of places for those that aren't
+pub record Choices : Type 0 where
+  pub secret : Option (List ℕ)
+  pub vet : ℕ
+  pub fresh : ℕ
+
+abbrev pub choices_with : Option (Option (List ℕ)) → Option ℕ → Option ℕ → Option Choices
+choices_with None vet fresh = None
+choices_with (Some secret) None fresh = None
+choices_with (Some secret) (Some vet) None = None
+choices_with (Some secret) (Some vet) (Some fresh) = Some (record { secret = secret; vet = vet; fresh = fresh })
+
+unfoldable pub choices_of : List (List ℕ) → Option Choices
+choices_of words =
+    choices_with (secret_or_none (value_of (codes "--secret") words))
+    (number_or bounds.USUAL_VET 1 limits.VET (value_of (codes "--vet") words))
+    (number_or bounds.USUAL_FRESH 0 bounds.PERCENT (value_of (codes "--fresh") words))
+
+abbrev pub init_with : Option (List ℕ) → Option Choices → Option Numbers → Option Rates → Option Caps → Option NewStore
+init_with None choices scheme rates caps = None
+init_with (Some store) None scheme rates caps = None
+init_with (Some store) (Some choices) None rates caps = None
+init_with (Some store) (Some choices) (Some scheme) None caps = None
+init_with (Some store) (Some choices) (Some scheme) (Some rates) None = None
+init_with (Some store) (Some choices) (Some scheme) (Some rates) (Some caps) = Some (record {
+  store = store;
+  secret = choices.secret;
+  scheme = scheme;
+  vet = choices.vet;
+  fresh = choices.fresh;
+  rates = rates;
+  caps = caps;
+})
+
+-- what the words behind `init` ask for
+unfoldable pub init_of : List (List ℕ) → Option NewStore
+init_of words =
+    if is_form init_names words
+    then init_with (value_of (codes "--store") words) (choices_of words) (scheme_of words) (rates_of words) (caps_of words)
+    else None
+
+-- ---- all
+
+-- what the words ask for, if they are a command
+unfoldable pub command_of : List (List ℕ) → Option Asked
+command_of [] = None
+command_of (name ∷ words) =
+    if same name (codes "settle") then settle_of words
+    else (if same name (codes "judge") then judge_of words
+    else (if same name (codes "init") then option_map init (init_of words) else None))
+
+-- a store is named
+abbrev pub names_store : Option Asked → Bool
+names_store (Some (init store)) = true
+names_store _ = false

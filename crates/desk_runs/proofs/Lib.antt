@@ -1,0 +1,5 @@
+pub mod Entering
+pub mod Running
+pub mod Doing
+pub mod Gathering
+pub mod Counting

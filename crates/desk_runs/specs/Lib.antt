@@ -1,0 +1,4 @@
+pub mod Entered
+pub mod Runs
+pub mod Gathered
+pub mod Numbered

@@ -1,0 +1,5 @@
+pub mod Joins
+pub mod KindLemmas
+pub mod PlaceLemmas
+pub mod SchemeLemmas
+pub mod UpgradeLemmas

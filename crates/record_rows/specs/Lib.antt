@@ -1,0 +1,12 @@
+pub mod Numbers
+pub mod Settings
+pub mod Plans
+pub mod Requests
+pub mod Bodies
+pub mod Spelling
+pub mod Fits
+pub mod Ranks
+pub mod Rising
+pub mod Reading
+pub mod Laws
+pub mod Version1

@@ -1,0 +1,74 @@
+// Kind 3: a storage node.
+ghost use Rattle.std.specs.Prelude.{◌≡◌, refl};
+ghost use Rattle.std.proofs.Common.{rules};
+ghost use Rattle.sat_base.specs.declared.kinds.TheConstants as kinds;
+ghost use Rattle.record_rows.specs.declared.records.Rec.TheVariants as rec;
+ghost use Rattle.record_rows.specs.Laws.Kinds.{the_node};
+
+use crate::coded::Spelled;
+use crate::kind::Kind;
+use crate::records::Rec;
+use node_registry::{Node, Status};
+use sat_base::{Moment, NoMemory, NodeId, kinds};
+
+type Body = (u32, (u16, (u64, (Moment, (u32, (u32, (u32, Status)))))));
+
+impl Kind for Node {
+    type Id = NodeId;
+
+    type Body = Body;
+
+    ghost KIND = { kinds.NODE };
+
+    const KIND: u8 = kinds::NODE;
+
+    ghost rec = { rec.Node };
+
+    ghost made = { λ id (addr, (port, (free, (joined, (alpha, (beta, (passes, status))))))).
+        rec.Node (record {
+          id = id;
+          addr = addr;
+          port = port;
+          free = free;
+          joined = joined;
+          alpha = alpha;
+          beta = beta;
+          passes = passes;
+          status = status;
+        }) };
+
+    fn put_id(&self, out: &mut Vec<u8>) -> Result<(), NoMemory> {
+        self.id.put(out)
+    }
+
+    fn put_body(&self, out: &mut Vec<u8>) -> Result<(), NoMemory> {
+        let rating = (self.alpha, (self.beta, (self.passes, self.status)));
+        (self.addr, (self.port, (self.free, (self.joined, rating)))).put(out)
+    }
+
+    fn of(id: NodeId, body: Body) -> Rec {
+        let (addr, (port, (free, (joined, (alpha, (beta, (passes, status))))))) = body;
+        Rec::Node(Node {
+            id,
+            addr,
+            port,
+            free,
+            joined,
+            alpha,
+            beta,
+            passes,
+            status,
+        })
+    }
+
+    ghost kind = { λ node. refl };
+
+    ghost parts = { record {
+      row = λ id body. refl;
+      ranked = λ id body. refl;
+      parted = λ id body fits. Prim.search rules;
+      joined = λ id body id_fits body_fits. Prim.search rules;
+      whole = λ rec is. let found = the_node rec is in let x = found.0 in
+          (x.id, (x.addr, (x.port, (x.free, (x.joined, (x.alpha, (x.beta, (x.passes, x.status))))))), found.1);
+    } };
+}

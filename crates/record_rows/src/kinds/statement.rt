@@ -1,0 +1,77 @@
+// Kind 8: what a node's operator is paid for a month.
+ghost use Rattle.std.specs.Prelude.{◌≡◌, refl};
+ghost use Rattle.std.proofs.Common.{rules};
+ghost use Rattle.sat_base.specs.declared.kinds.TheConstants as kinds;
+ghost use Rattle.record_rows.specs.declared.records.Rec.TheVariants as rec;
+ghost use Rattle.record_rows.specs.Laws.Kinds.{the_statement};
+
+use crate::coded::Spelled;
+use crate::kind::Kind;
+use crate::records::Rec;
+use sat_base::{Month, NoMemory, NodeId, kinds};
+use tally_payout::{Parts, Statement, Sums};
+
+type Body = (u32, (u8, (Sums, (Parts, (u128, (u128, (u128, u128)))))));
+
+impl Kind for Statement {
+    type Id = (Month, NodeId);
+
+    type Body = Body;
+
+    ghost KIND = { kinds.STATEMENT };
+
+    const KIND: u8 = kinds::STATEMENT;
+
+    ghost rec = { rec.Statement };
+
+    ghost made = { λ (month, node) (age, (percent, (sums, (parts, (held, (paid, (returned, pot))))))).
+        rec.Statement (record {
+          month = month;
+          node = node;
+          age = age;
+          percent = percent;
+          sums = sums;
+          parts = parts;
+          held = held;
+          paid = paid;
+          returned = returned;
+          pot = pot;
+        }) };
+
+    fn put_id(&self, out: &mut Vec<u8>) -> Result<(), NoMemory> {
+        (self.month, self.node).put(out)
+    }
+
+    fn put_body(&self, out: &mut Vec<u8>) -> Result<(), NoMemory> {
+        let pay = (self.held, (self.paid, (self.returned, self.pot)));
+        (self.age, (self.percent, (self.sums, (self.parts, pay)))).put(out)
+    }
+
+    fn of(id: (Month, NodeId), body: Body) -> Rec {
+        let (month, node) = id;
+        let (age, (percent, (sums, (parts, (held, (paid, (returned, pot))))))) = body;
+        Rec::Statement(Statement {
+            month,
+            node,
+            age,
+            percent,
+            sums,
+            parts,
+            held,
+            paid,
+            returned,
+            pot,
+        })
+    }
+
+    ghost kind = { λ statement. refl };
+
+    ghost parts = { record {
+      row = λ id body. refl;
+      ranked = λ id body. refl;
+      parted = λ id body fits. Prim.search rules;
+      joined = λ id body id_fits body_fits. Prim.search rules;
+      whole = λ rec is. let found = the_statement rec is in let x = found.0 in
+          ((x.month, x.node), (x.age, (x.percent, (x.sums, (x.parts, (x.held, (x.paid, (x.returned, x.pot))))))), found.1);
+    } };
+}

@@ -1,0 +1,14 @@
+pub mod FindLemmas
+pub mod BlockLemmas
+pub mod IdLemmas
+pub mod ChangedIds
+pub mod ChangedRows
+pub mod LegalLemmas
+pub mod CrashLemmas
+pub mod AnswerLemmas
+pub mod BookLemmas
+pub mod SortLemmas
+pub mod OldLemmas
+pub mod FineParts
+pub mod PartLemmas
+pub mod OpeningLemmas

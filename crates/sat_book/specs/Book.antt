@@ -1,0 +1,91 @@
+-- What contracts see of a book, and what holds of every book.
+use Rattle.std.specs.Prelude.{◌≡◌, ◌⊎◌, ℕ, ◌≤◌, List, [], Option, IsSomeAnd, true, false}
+use Rattle.sat_base.specs.Rows.{Rows, AreInOrder, rows_of}
+use Rattle.machine_calls.specs.declared.call.Call.{Call}
+use Rattle.machine_calls.specs.declared.reply.Reply.{Reply}
+use Rattle.machine_calls.specs.Replies.{is_lost}
+use Rattle.machine_step.specs.Tables.{Tables}
+use Rattle.machine_step.specs.Step.{step, after, IsWellFormed}
+use Rattle.machine_step.specs.Bounds.{IsValid}
+use Rattle.machine_history.specs.History.{taken}
+use Rattle.sat_book.specs.Ids.{AreIds}
+use Rattle.sat_book.specs.Legal.{E, IsHistory, last_shown, replayed}
+use Rattle.sat_book.specs.Crash.{MayBeLeft}
+use Rattle.sat_book.specs.TableRows.{rows}
+use Rattle.sat_book.specs.declared.opening.Opening.{Opening}
+
+-- the tables that a book was opened with
+abbrev pub start_of : Opening → Tables
+start_of opening = opening.core.value.tables
+
+-- what is true of the entries of a desk's book, and which calls may be entered
+abbrev pub AreOf : Option Opening → List E → Type 0
+AreOf base entries = IsSomeAnd base (λ opening. IsHistory (start_of opening) opening.faults entries)
+
+abbrev pub MayEnter : Option Opening → Call → Type 0
+MayEnter base call = IsSomeAnd base (λ opening. IsWellFormed (start_of opening) call)
+
+-- the opening rows are those of the tables, which are valid, and the machine runs
+pub record Spell (opening : Opening) : Type 0 where
+  pub ordered : AreInOrder opening.rows
+  pub same : rows_of opening.rows ≡ rows (start_of opening)
+  pub running : (start_of opening).stopped ≡ false
+  pub valid : IsValid (start_of opening)
+
+-- a book over a keeper
+pub record BookView (K : Type 0) : Type 0 where
+  pub opening : Opening
+  -- the keeper, as it was handed in, as the book was opened over it, and as it is now
+  pub first : K
+  pub opened : K
+  pub keeper : K
+  -- the tables of the machine
+  pub tables : Tables
+  -- the calls that were applied, in their order
+  pub history : List E
+  -- how many the book has room for
+  pub room : ℕ
+
+-- ---- over what keeps the rows
+
+module _ {K : Type 0} (is_clean is_open tells : K → Type 0) (rows_at : K → Rows) (leaves : K → Rows → Type 0) where
+  -- rows that may be left after a call: rows that might before, where no record changed; those of its step, where it was answered as lost;
+  -- or the rows that the keeper has
+  abbrev pub LeftBy : Tables → Call → Reply → K → K → Rows → Type 0
+  LeftBy t call reply old new left =
+      (((is_lost reply ≡ true) ⊎ ((step t call).changes ≡ [])) × leaves old left)
+      ⊎ (((is_lost reply ≡ true) × (is_open old × (tells old → rows_at old ≡ rows t → left ≡ rows (after t call))))
+      ⊎ (is_open new × (tells new → left ≡ rows_at new)))
+
+  -- what a call that was answered so does to the keeper
+  pub record Moves (t : Tables) (call : Call) (reply : Reply) (old new : K) : Type 0 where
+    pub clean : is_clean new → is_clean old
+    pub opened : is_open new → is_open old
+    pub told : is_open new → tells old → tells new
+    pub kept : is_open new → tells old → rows_at old ≡ rows t → rows_at new ≡ rows (taken t (record { call = call; reply = reply }))
+    pub left : is_clean new → (m : Rows) → leaves new m → LeftBy t call reply old new m
+    pub one_step : is_clean new → (m : Rows) → leaves new m → leaves old m ⊎ (is_open old × (tells old → rows_at old ≡ rows t → m ≡ rows (after t call)))
+
+  -- the keeper told what it keeps as it was handed in, and was open as the book was opened
+  pub record Told (first opened : K) : Type 0 where
+    pub was_open : is_open opened
+    pub told : tells first
+
+  -- the keeper goes with the tables that a history leaves
+  pub record Keeps (first over keeper : K) (start : Tables) (history : List E) : Type 0 where
+    pub opened : is_open keeper → is_open first
+    pub clean : is_clean keeper → is_clean first
+    pub told : is_open keeper → tells first → tells keeper
+    pub kept : is_open keeper → tells first → rows_at keeper ≡ rows (replayed start history)
+    pub left : is_clean keeper → Told first over → (m : Rows) → leaves keeper m → MayBeLeft start history m
+
+  module _ (faults : K → ℕ) where
+    -- what holds of every book, between two calls
+    pub record IsBook (b : BookView K) : Type 0 where
+      pub spelled : Spell b.opening
+      pub lawful : IsHistory (start_of b.opening) b.opening.faults b.history
+      pub tables : b.tables ≡ replayed (start_of b.opening) b.history
+      pub ids : AreIds b.tables
+      pub counted : faults b.first ≤ b.opening.faults
+      pub shown : last_shown b.opening.faults b.history ≤ faults b.keeper
+      pub keeps : Keeps b.first b.opened b.keeper (start_of b.opening) b.history

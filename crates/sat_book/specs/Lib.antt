@@ -1,0 +1,9 @@
+pub mod TableRows
+pub mod Changes
+pub mod Ids
+pub mod Legal
+pub mod Crash
+pub mod Book
+pub mod Kept
+pub mod Opened
+pub mod Openings

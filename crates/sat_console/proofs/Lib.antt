@@ -1,0 +1,4 @@
+pub mod Cut
+pub mod Runs
+pub mod Shares
+pub mod Once

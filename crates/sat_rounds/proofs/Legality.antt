@@ -1,0 +1,47 @@
+-- Entries of a book's history.
+use Rattle.std.proofs.Common.{◌≡◌, ℕ, suc, zero, List, [], ◌∷◌, map, Bool, true, false, Option, Some, None, refl, ap, ◌∙◌, subst}
+use Rattle.std.specs.Prelude.{IsSome}
+use Rattle.turnstile.proofs.Histories.{right_of}
+use Rattle.turnstile.specs.Known.{Enters}
+use Rattle.desk_runs.specs.Entered.{At}
+use Rattle.desk_runs.proofs.Entering.{stands}
+use Rattle.machine_calls.specs.declared.call.Call.{Call}
+use Rattle.machine_calls.specs.declared.reply.Reply.{Reply}
+use Rattle.machine_calls.specs.Replies.{is_told, is_lost, is_sayable}
+use Rattle.machine_step.specs.Tables.{Tables}
+use Rattle.machine_step.specs.Step.{IsFormed}
+use Rattle.machine_step.proofs.Replies.{step_sayable}
+use Rattle.machine_history.specs.History.{Said, IsLegal, IsRight, taken}
+use Rattle.sat_book.specs.Book.{AreOf, MayEnter, start_of}
+use Rattle.sat_book.specs.Legal.{E, IsHistory, said_of}
+use Rattle.sat_book.specs.declared.opening.Opening.{Opening}
+use Rattle.sat_rounds.specs.Good.{tables_at}
+use Rattle.sat_rounds.specs.Sessions.{V}
+
+right_in : (t : Tables) (h : List E) (i : ℕ) (e : E) → IsLegal t (map said_of h) → At h i e → IsRight (tables_at t h i) (said_of e)
+right_in t [] i e l a = absurd (cc)
+right_in t (x ∷ h) zero e l a = let same : x ≡ e = cc in subst (λ (y : E). IsRight t (said_of y)) same l.0
+right_in t (x ∷ h) (suc i) e l a = right_in (taken t (said_of x)) h i e l.1 a
+
+pub right_at : (start : Tables) (count : ℕ) (h : List E) (place : ℕ) (e : E) → IsHistory start count h → At h place e → IsRight (tables_at start h place) (said_of e)
+right_at start count h place e lawful at = right_in start h place e lawful.legal at
+
+sayable_right : (t : Tables) (said : Said) → IsRight t said → is_sayable said.reply ≡ true
+sayable_right t said r = go (is_lost said.reply) refl
+  where
+    go : (b : Bool) → is_lost said.reply ≡ b → is_sayable said.reply ≡ true
+    go true h = right_of (is_told said.reply) (is_lost said.reply) h
+    go false h = ap is_sayable (r.answer h) ∙ step_sayable t said.call
+
+sayable_in : (base : Option Opening) (h : List E) (place : ℕ) (e : E) → AreOf base h → At h place e → is_sayable e.reply ≡ true
+sayable_in None h place e lawful at = absurd lawful
+sayable_in (Some opening) h place e lawful at = sayable_right (tables_at (start_of opening) h place) (said_of e) (right_at (start_of opening) opening.faults h place e lawful at)
+
+-- the reply of a call that was entered can be said
+pub sayable_entered : (k : V) (call : Call) (reply : Reply) (place : ℕ) (k' : V) → Enters AreOf k call reply place k' → is_sayable reply ≡ true
+sayable_entered k call reply place k' d = sayable_in k.base k'.seen place (record { place = place; pass = k.number; call = call; reply = reply }) d.just (stands AreOf k call reply place k' d)
+
+-- a call that is formed may be entered
+pub may_enter : (base : Option Opening) (call : Call) → IsSome base → IsFormed call → MayEnter base call
+may_enter None call some formed = absurd (cc)
+may_enter (Some opening) call some formed = formed

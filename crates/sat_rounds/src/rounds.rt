@@ -1,0 +1,83 @@
+// What workers of rounds tell, whatever a round is.
+ghost use Rattle.std.specs.Prelude.{◌≡◌, IsSome};
+
+use crate::told::BookPass;
+use sat_base::{Gate, Keeper};
+use sat_book::Book;
+use std::alloc::Global;
+use std::sync::Wait;
+use turnstile::Desk;
+
+/// How a round ended.
+#[derive(Clone, Copy, Debug, PartialEq, Eq)]
+pub enum RoundEnd {
+    /// It did all that there was to do.
+    Through,
+    /// Random words were wanting.
+    WordsFault,
+    /// The ticket is at or above the term, and the call wasn't entered.
+    TermFull { ticket: u64 },
+    /// The machine has stopped.
+    Stopped,
+    /// There was no memory to go on.
+    NoMemory,
+}
+
+/// One round: the places of its entries, in their order, and how it ended.
+#[derive(Debug, Drop)]
+pub struct Round {
+    pub places: Vec<u64>,
+    pub end: RoundEnd,
+}
+
+/// Why a worker of rounds ended.
+#[derive(Clone, Copy, Debug, PartialEq, Eq)]
+pub enum RoundsEnd {
+    /// No tick will come any more.
+    Over,
+    /// Its last round met the full term, a machine that has stopped, or a want of random words.
+    Round,
+    /// There was no memory for the next round, and no tick was taken for it.
+    NoMemory,
+}
+
+/// What a worker of rounds leaves: its pass, its kit, its rounds and why it ended.
+#[derive(Drop)]
+pub struct RoundsWorked<A> {
+    pub pass: BookPass,
+    pub kit: A,
+    pub rounds: Vec<Round>,
+    pub end: RoundsEnd,
+}
+
+/// A kit whose worker makes a round at each tick, until it ends.
+pub trait RoundKit: Drop {
+    ghost use Rattle.std.specs.Prelude.{List, Option};
+    ghost use Rattle.sat_book.specs.Legal.{E};
+    ghost use Rattle.sat_book.specs.declared.opening.Opening.{Opening};
+    ghost use Rattle.sat_rounds.specs.Rounds.{KitView, RoundsRan};
+    ghost use Rattle.sat_rounds.specs.declared.rounds.Round.{Round};
+
+    /// What is told of its nodes. No value of it is made.
+    type Nodes;
+
+    /// What is told of the kit.
+    ghost view: { Self → KitView Self.Nodes };
+
+    /// What is told of a round over a history in which its entries stand, beside its tick, its moments and its words. It
+    /// holds over each longer history too.
+    ghost tells: { Option Opening → KitView Self.Nodes → Round → List E → List E → KitView Self.Nodes → Type 0 };
+
+    /// Makes the rounds.
+    fn work<K: Keeper, G: Gate, R: Wait>(
+        self,
+        rt: &R,
+        alloc: Global,
+        desk: &Desk<Book<K>>,
+        pass: BookPass,
+        gate: &G,
+    ) -> RoundsWorked<Self>
+        requires desk { pass.desk ≡ desk.now }
+        requires base { IsSome pass.base }
+        ensures { RoundsRan (tells pass.base) (view self) pass result.rounds.items result.end (view result.kit) result.pass };
+}

@@ -1,0 +1,30 @@
+// What a session tells.
+use http_edge::EdgeErr;
+use machine_calls::{Call, Reply};
+use sat_book::Opening;
+use turnstile::Pass;
+
+/// A pass at a desk of books. It doesn't name their keeper.
+pub type BookPass = Pass<Call, Reply, Option<Opening>>;
+
+/// How a session ended. `sent` tells whether all of its answer was written; where it wasn't, a put failed.
+#[derive(Clone, Copy, Debug, PartialEq, Eq)]
+pub enum SessionEnd {
+    /// Its call is the entry at this place, whose reply it was told.
+    Entered { place: u64, sent: bool },
+    /// Its bytes asked nothing, or memory was wanting before its turn.
+    Edge { error: EdgeErr, sent: bool },
+    /// A read failed, and nothing was said.
+    ReadFault,
+    /// Random words were wanting.
+    WordsFault { sent: bool },
+    /// The ticket is at or above the term, and the call wasn't entered.
+    TermFull { ticket: u64, sent: bool },
+}
+
+/// One connection of a lane: its number, from 0, and how it ended.
+#[derive(Clone, Copy, Debug, PartialEq, Eq)]
+pub struct Session {
+    pub number: u64,
+    pub end: SessionEnd,
+}

@@ -1,0 +1,8 @@
+pub mod Crossing
+pub mod Rows
+pub mod Holding
+pub mod Gathering
+pub mod Among
+pub mod LaneLaws
+pub mod RoundLaws
+pub mod Whole

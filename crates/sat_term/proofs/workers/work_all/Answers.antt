@@ -1,0 +1,41 @@
+use Rattle.std.proofs.Common.{rules, refl, arith, subst, Option}
+use denote.Param.{param}
+use denote.Param.Send.{IsSend, IsSync, sendable}
+use Rattle.std.proofs.Crossing.{crosses}
+use Rattle.turnstile.proofs.desk.Desk.TheSendSync as desk_is
+use Rattle.turnstile.proofs.pass.Pass.TheSendSync as pass_is
+use Rattle.sat_term.proofs.Crossing.{book_send, keys_sync, posts_send, sheet_send}
+use Rattle.sat_book.specs.declared.opening.Opening.{Opening}
+use Rattle.sat_rounds.specs.Rounds.{RoundsRan}
+use Rattle.sat_term.specs.Crew.{kits_view}
+use Rattle.sat_term.proofs.Gathering.{all_done}
+use Rattle.sat_term.proofs.Rows.{three_more}
+use Rattle.sat_term.proofs.workers.work_all.Goals as goal
+
+pub join-lanes-requires-send-F : goal.join-lanes-requires-send-F
+join-lanes-requires-send-F g c κs within =
+    let k : IsSend (param 0 g.row.K) = search rules in
+    let l : IsSend (param 1 g.row.L) = search rules in
+    let m : IsSend (param 2 g.row.T) = search rules in
+    let w : IsSend (param 3 g.row.W) = search rules in
+    let a : IsSync (param 7 g.row.G) = search rules in
+    let r : IsSync (param 8 g.row.R) = search rules in
+    search (book_send, desk_is.the_sync, pass_is.the_send, keys_sync, posts_send, sheet_send, crosses, sendable) depth 20
+
+pub returns : goal.returns
+returns g c =
+    let done = c.join-lanes.ensures.first.1 in
+    let rounds = c.join-lanes.ensures.second in
+    let p = c.part-pass.ensures.parted in
+    let b = c.part-pass.ensures.bases in
+    let audit = subst (λ (x : Option Opening). RoundsRan (g.A.RoundKit.tells x) (g.A.RoundKit.view c.args.crew.kits.audit) c.part-pass.result.audit c.join-lanes.result.1.audit.rounds.items c.join-lanes.result.1.audit.end (g.A.RoundKit.view c.join-lanes.result.1.audit.kit) c.join-lanes.result.1.audit.pass) b.0 rounds.0 in
+    let repair = subst (λ (x : Option Opening). RoundsRan (g.B.RoundKit.tells x) (g.B.RoundKit.view c.args.crew.kits.repair) c.part-pass.result.repair c.join-lanes.result.1.repair.rounds.items c.join-lanes.result.1.repair.end (g.B.RoundKit.view c.join-lanes.result.1.repair.kit) c.join-lanes.result.1.repair.pass) b.1 rounds.1.0 in
+    let tally = subst (λ (x : Option Opening). RoundsRan (g.C.RoundKit.tells x) (g.C.RoundKit.view c.args.crew.kits.tally) c.part-pass.result.tally c.join-lanes.result.1.tally.rounds.items c.join-lanes.result.1.tally.end (g.C.RoundKit.view c.join-lanes.result.1.tally.kit) c.join-lanes.result.1.tally.pass) b.2 rounds.1.1 in
+    let nums = three_more c.join-lanes.result.0.sheet.numbers.items _ _ _ c.number-audit_number.result c.number-repair_number.result c.number-tally_number.result c.push_reserved.ensures.items c.push_reserved-2.ensures.items c.push_reserved-3.ensures.items in
+    all_done (g.A.RoundKit.tells c.args.pass.base) (g.B.RoundKit.tells c.args.pass.base) (g.C.RoundKit.tells c.args.pass.base)
+    _ _ c.args.pass p.with_repair p.with_audit c.part-pass.result.lanes c.part-pass.result.tally c.part-pass.result.repair c.part-pass.result.audit _ _ _ _ _ _ _ _ _
+    (kits_view g.A.RoundKit.view g.B.RoundKit.view g.C.RoundKit.view c.args.crew.kits) _ _ _ _
+    c.number-audit_number.result c.number-repair_number.result c.number-tally_number.result
+    (let w = c.requires.spare in omega arith) p.first p.tally_is p.tally_idle p.second p.repair_is p.repair_idle p.third p.audit_is p.audit_idle
+    c.number-audit_number.ensures.number c.number-repair_number.ensures.number c.number-tally_number.ensures.number
+    done audit repair tally c.join-with_audit.ensures c.join-with_repair.ensures c.join-all.ensures nums refl refl

@@ -1,0 +1,119 @@
+// A whole term over one book.
+ghost use Rattle.std.specs.Prelude.{◌≡◌, ◌+◌, ◌≤◌, [], length, map, IfOk, IfErr, Some, vec_capacity};
+ghost use Rattle.sat_book.specs.Legal.{last_shown};
+ghost use Rattle.sat_rounds.specs.Lanes.{post_view};
+ghost use Rattle.sat_term.specs.Crew.{IsBlank, kits_view};
+ghost use Rattle.sat_term.specs.Term.{TermClauses};
+
+use crate::crew::{Crew, Ends, Sheet, Term, Worked};
+use crate::workers::work_all;
+use order_limits::Keys;
+use sat_base::{Clock, Gate, Keeper, Lane, Words};
+use sat_book::Book;
+use sat_rounds::RoundKit;
+use std::alloc::Global;
+use std::sync::Wait;
+use std::thread::Threads;
+use turnstile::Desk;
+
+/// What a term leaves.
+#[derive(Drop)]
+pub struct Served<K, L, T, W, A, B, C> {
+    pub keeper: K,
+    pub crew: Crew<L, T, W, A, B, C>,
+    pub term: Term,
+    pub ends: Ends,
+}
+
+/// What is given back where there is no memory for the desk.
+#[derive(Drop)]
+pub struct NotServed<K: Keeper, L, T, W, A, B, C> {
+    pub book: Book<K>,
+    pub crew: Crew<L, T, W, A, B, C>,
+    pub sheet: Sheet,
+}
+
+/// Puts a book with no entries yet on a desk, works all posts and kits at once, each in a thread of its own where threads
+/// are to be had, and takes it off again. There are at most 16 posts, and the sheet has room for a number of each worker.
+///
+/// Whatever the threads' order, the term is one history of the book (`clauses`): its entries are just those that the
+/// workers' sessions and rounds name, each worker's in the order in which it made them. A worker ends only for a cause
+/// that its end names, and all connections are given back. Where there is no memory for the desk, all comes back, and the
+/// book as it was.
+pub fn serve_term<
+    K: Keeper + Send,
+    L: Lane,
+    T: Clock,
+    W: Words,
+    A: RoundKit + Send,
+    B: RoundKit + Send,
+    C: RoundKit + Send,
+    G: Gate,
+    R: Threads + Wait + Sync,
+>(
+    rt: &R,
+    alloc: Global,
+    book: Book<K>,
+    term: u64,
+    keys: &Keys,
+    crew: Crew<L, T, W, A, B, C>,
+    gate: &G,
+    sheet: Sheet,
+) -> Result<Served<K, L, T, W, A, B, C>, NotServed<K, L, T, W, A, B, C>>
+    requires book { book.history ≡ [] }
+    requires term { (1 ≤ term) × (term ≤ 65536) × (term ≤ book.room) }
+    requires few { length crew.posts.items ≤ 16 }
+    requires sheet { IsBlank (length crew.posts.items) sheet }
+    requires room { length crew.posts.items + 3 ≤ vec_capacity sheet.numbers }
+    ensures clauses { IfOk result (λ r. TermClauses (A.tells (Some book.opening)) (B.tells (Some book.opening)) (C.tells (Some book.opening))
+        keys.now term book.opening r.term r.ends
+        (map (post_view L.about T.coming W.left W.faults) crew.posts.items) (map (post_view L.about T.coming W.left W.faults) r.crew.posts.items)
+        (kits_view A.view B.view C.view crew.kits) (kits_view A.view B.view C.view r.crew.kits)) }
+    ensures faults { IfOk result (λ r. last_shown book.opening.faults r.term.history.items ≤ K.faults r.keeper) }
+    ensures err { IfErr result (λ r. (r.book ≡ book) × (r.crew ≡ crew) × (r.sheet ≡ sheet)) }
+{
+    let (desk, pass) = match Desk::new(alloc, book, term) {
+        Ok(made) => made,
+        Err(refused) => {
+            let (book, _) = refused;
+            return Err(NotServed { book, crew, sheet });
+        }
+    };
+    let Worked {
+        pass,
+        crew,
+        sheet,
+        audits,
+        repairs,
+        tallies,
+        audit_end,
+        repair_end,
+        tally_end,
+    } = work_all(rt, alloc, &desk, pass, keys, crew, gate, sheet);
+    let book = desk.close(pass);
+    let (keeper, opening, history) = book.close();
+    let Sheet {
+        numbers,
+        lanes,
+        ends,
+    } = sheet;
+    Ok(Served {
+        keeper,
+        crew,
+        term: Term {
+            opening,
+            history,
+            passes: numbers,
+            lanes,
+            audits,
+            repairs,
+            tallies,
+        },
+        ends: Ends {
+            lanes: ends,
+            audit: audit_end,
+            repair: repair_end,
+            tally: tally_end,
+        },
+    })
+}

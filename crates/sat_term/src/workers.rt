@@ -1,0 +1,196 @@
+// All workers at once.
+ghost use Rattle.std.specs.Prelude.{◌≡◌, ◌+◌, ◌^◌, ◌≤◌, length, map, vec_capacity, IsSome};
+ghost use Rattle.sat_rounds.specs.Lanes.{post_view};
+ghost use Rattle.sat_rounds.specs.Rounds.{RoundsRan};
+ghost use Rattle.sat_term.specs.Crew.{AllDone, IsBlank, IsFilled, LanesDone, Parted, kits_view};
+
+use crate::crew::{Crew, Kits, KitsWorked, LanesWorked, Sheet, Worked};
+use crate::kits::work_kits;
+use crate::lanes::work_lanes;
+use order_limits::Keys;
+use sat_base::{Clock, Gate, Keeper, Lane, Words};
+use sat_book::Book;
+use sat_rounds::{BookPass, Post, RoundKit, RoundsWorked};
+use std::alloc::Global;
+use std::sync::Wait;
+use std::thread::{Threads, join};
+use turnstile::Desk;
+
+// The passes of the lanes and of the workers of rounds.
+struct Parts {
+    lanes: BookPass,
+    audit: BookPass,
+    repair: BookPass,
+    tally: BookPass,
+}
+
+// Cuts a pass into those of the workers of rounds and one for the lanes, whose numbers come first.
+fn part<K: Keeper>(desk: &Desk<Book<K>>, pass: BookPass) -> Parts
+    requires desk { pass.desk ≡ desk.now }
+    requires base { IsSome pass.base }
+    requires spare { 2 ^ 19 ≤ pass.spare }
+    ensures lanes { (result.lanes.desk ≡ desk.now) × IsSome result.lanes.base }
+    ensures audit { (result.audit.desk ≡ desk.now) × IsSome result.audit.base }
+    ensures repair { (result.repair.desk ≡ desk.now) × IsSome result.repair.base }
+    ensures tally { (result.tally.desk ≡ desk.now) × IsSome result.tally.base }
+    ensures bases { (result.audit.base ≡ pass.base) × (result.repair.base ≡ pass.base) × (result.tally.base ≡ pass.base) }
+    ensures spare { 2 ^ 16 ≤ result.lanes.spare }
+    ensures parted { Parted pass result.lanes result.audit result.repair result.tally }
+{
+    let (rest, tally) = desk.split(pass);
+    let (rest, repair) = desk.split(rest);
+    let (lanes, audit) = desk.split(rest);
+    Parts {
+        lanes,
+        audit,
+        repair,
+        tally,
+    }
+}
+
+// Works the lanes, with numbers enough for 16.
+fn work_posts<K: Keeper + Send, L: Lane, T: Clock, W: Words, G: Gate, R: Threads + Wait + Sync>(
+    rt: &R,
+    alloc: Global,
+    desk: &Desk<Book<K>>,
+    pass: BookPass,
+    keys: &Keys,
+    posts: Vec<Post<L, T, W>>,
+    gate: &G,
+    sheet: Sheet,
+) -> LanesWorked<L, T, W>
+    requires desk { (pass.desk ≡ desk.now) × IsSome pass.base }
+    requires spare { 2 ^ 16 ≤ pass.spare }
+    requires few { length posts.items ≤ 16 }
+    requires sheet { IsBlank (length posts.items) sheet }
+    ensures filled { IsFilled (length posts.items) sheet result.sheet }
+    ensures done { LanesDone keys.now desk.now.term pass (map (post_view L.about T.coming W.left W.faults) posts.items) result.pass
+        (map (post_view L.about T.coming W.left W.faults) result.posts.items) result.sheet }
+{
+    work_lanes(rt, alloc, desk, pass, keys, posts, gate, sheet)
+}
+
+// Works all posts and kits at once. Where no thread is to be had they are worked one after another.
+pub(crate) fn work_all<
+    K: Keeper + Send,
+    L: Lane,
+    T: Clock,
+    W: Words,
+    A: RoundKit + Send,
+    B: RoundKit + Send,
+    C: RoundKit + Send,
+    G: Gate,
+    R: Threads + Wait + Sync,
+>(
+    rt: &R,
+    alloc: Global,
+    desk: &Desk<Book<K>>,
+    pass: BookPass,
+    keys: &Keys,
+    crew: Crew<L, T, W, A, B, C>,
+    gate: &G,
+    sheet: Sheet,
+) -> Worked<L, T, W, A, B, C>
+    requires desk { pass.desk ≡ desk.now }
+    requires base { IsSome pass.base }
+    requires spare { 2 ^ 19 ≤ pass.spare }
+    requires few { length crew.posts.items ≤ 16 }
+    requires sheet { IsBlank (length crew.posts.items) sheet }
+    requires room { length crew.posts.items + 3 ≤ vec_capacity sheet.numbers }
+    ensures { AllDone (A.tells pass.base) (B.tells pass.base) (C.tells pass.base) keys.now desk.now.term pass
+        (map (post_view L.about T.coming W.left W.faults) crew.posts.items) (kits_view A.view B.view C.view crew.kits) result.pass
+        (map (post_view L.about T.coming W.left W.faults) result.crew.posts.items) (kits_view A.view B.view C.view result.crew.kits) result.sheet (record {
+          audits = result.audits.items;
+          repairs = result.repairs.items;
+          tallies = result.tallies.items;
+          audit_end = result.audit_end;
+          repair_end = result.repair_end;
+          tally_end = result.tally_end;
+        }) }
+{
+    let Crew { posts, kits } = crew;
+    let Parts {
+        lanes: pass,
+        audit: for_audit,
+        repair: for_repair,
+        tally: for_tally,
+    } = part(desk, pass);
+    let tally_number = for_tally.number();
+    let repair_number = for_repair.number();
+    let audit_number = for_audit.number();
+    let (lanes, worked) = join(
+        rt,
+        move || -> LanesWorked<L, T, W>
+            requires { ((pass.desk ≡ desk.now) × IsSome pass.base) × (2 ^ 16 ≤ pass.spare) × (length posts.items ≤ 16) × IsBlank (length posts.items) sheet }
+            ensures filled { IsFilled (length posts.items) sheet result.sheet }
+            ensures done { LanesDone keys.entry.now desk.entry.now.term pass (map (post_view L.about T.coming W.left W.faults) posts.items) result.pass (map (post_view L.about T.coming W.left W.faults) result.posts.items) result.sheet }
+        { work_posts(rt, alloc, desk, pass, keys, posts, gate, sheet) },
+        move || -> KitsWorked<A, B, C>
+            requires { ((for_audit.desk ≡ desk.now) × IsSome for_audit.base) × ((for_repair.desk ≡ desk.now) × IsSome for_repair.base) × ((for_tally.desk ≡ desk.now) × IsSome for_tally.base) }
+            ensures audit { RoundsRan (A.tells for_audit.base) (A.view kits.audit) for_audit result.audit.rounds.items result.audit.end (A.view result.audit.kit) result.audit.pass }
+            ensures repair { RoundsRan (B.tells for_repair.base) (B.view kits.repair) for_repair result.repair.rounds.items result.repair.end (B.view result.repair.kit) result.repair.pass }
+            ensures tally { RoundsRan (C.tells for_tally.base) (C.view kits.tally) for_tally result.tally.rounds.items result.tally.end (C.view result.tally.kit) result.tally.pass }
+        {
+            work_kits(
+                rt, alloc, desk, for_audit, for_repair, for_tally, gate, kits,
+            )
+        },
+    );
+    let LanesWorked { pass, posts, sheet } = lanes;
+    let KitsWorked {
+        audit,
+        repair,
+        tally,
+    } = worked;
+    let Sheet {
+        mut numbers,
+        lanes,
+        ends,
+    } = sheet;
+    let RoundsWorked {
+        pass: from_audit,
+        kit: audit,
+        rounds: audits,
+        end: audit_end,
+    } = audit;
+    let RoundsWorked {
+        pass: from_repair,
+        kit: repair,
+        rounds: repairs,
+        end: repair_end,
+    } = repair;
+    let RoundsWorked {
+        pass: from_tally,
+        kit: tally,
+        rounds: tallies,
+        end: tally_end,
+    } = tally;
+    let with_audit = desk.join(pass, from_audit);
+    let with_repair = desk.join(with_audit, from_repair);
+    let all = desk.join(with_repair, from_tally);
+    numbers.push_reserved(audit_number);
+    numbers.push_reserved(repair_number);
+    numbers.push_reserved(tally_number);
+    Worked {
+        pass: all,
+        crew: Crew {
+            posts,
+            kits: Kits {
+                audit,
+                repair,
+                tally,
+            },
+        },
+        sheet: Sheet {
+            numbers,
+            lanes,
+            ends,
+        },
+        audits,
+        repairs,
+        tallies,
+        audit_end,
+        repair_end,
+        tally_end,
+    }
+}

@@ -1,6 +1,0 @@
-mod faults;
-mod judge;
-mod lines;
-mod parts;
-mod samples;
-mod words;

@@ -1,0 +1,27 @@
+-- What the words of `init` ask for is what the store is made with.
+use Rattle.std.proofs.Common.{◌≡◌, ℕ, List, Option, Some, refl, sym, ◌∙◌}
+use Rattle.sat_base.specs.declared.rates.Rates.{Rates}
+use Rattle.sat_base.specs.declared.scheme.Scheme.{Scheme}
+use Rattle.sat_base.specs.declared.settings.Caps.{Caps}
+use Rattle.command_line.specs.Command.{Asked, NewStore, command_of, numbers_of}
+use Rattle.command_line.specs.Command.Asked.{init}
+use Rattle.sat_init.specs.declared.setup.Setup.{Setup}
+use Rattle.satellite_cli.specs.Making.{IsAsked}
+
+same_store : (a b : NewStore) → Some (init a) ≡ Some (init b) → a ≡ b
+same_store a b e = cc
+
+pub is_asked : (store : List ℕ) (secret : Option (List ℕ)) (scheme : Scheme) (vet fresh : ℕ) (rates : Rates) (caps : Caps) (line : List (List ℕ)) (asked : NewStore)
+    → command_of line ≡ Some (init (record { store = store; secret = secret; scheme = numbers_of scheme; vet = vet; fresh = fresh; rates = rates; caps = caps }))
+    → command_of line ≡ Some (init asked)
+    → IsAsked asked (record { secret = secret; scheme = scheme; vet = vet; fresh = fresh; rates = rates; caps = caps })
+is_asked store secret scheme vet fresh rates caps line asked is same =
+    let e = same_store _ asked (sym is ∙ same) in
+    record {
+      secret = λ i. (e i).secret;
+      scheme = λ i. (e i).scheme;
+      vet = λ i. (e i).vet;
+      fresh = λ i. (e i).fresh;
+      rates = λ i. (e i).rates;
+      caps = λ i. (e i).caps;
+    }

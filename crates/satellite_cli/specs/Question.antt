@@ -1,6 +1,0 @@
--- What the reader of a line makes, as what the line asks.
-use Rattle.satellite_cli.specs.declared.answer.Question.{Question}
-use Rattle.satellite_cli.specs.Form.{Asked}
-
-abbrev pub asked_as : Question → Asked
-asked_as q = record { node = q.node; moment = q.moment; order = q.order.items }

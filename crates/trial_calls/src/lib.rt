@@ -1,0 +1,16 @@
+//! The machine as lines: records, calls and orders by their fields, and replies in words.
+//!
+//! It is there for the `trial_` crates alone, and promises nothing beyond being safe and what calls need: [`call`] gives one
+//! that is formed.
+#![tactic(auto)]
+
+mod calls;
+mod orders;
+mod records;
+mod refusals;
+mod segments;
+mod telling;
+
+pub use calls::call;
+pub use records::{Record, clear, put_record, record_of};
+pub use telling::told;

@@ -1,0 +1,57 @@
+// Replies in words. A record's fields follow in their order.
+use crate::refusals::told_refusal;
+use machine_calls::Reply;
+use sat_base::{Done, NoMemory, Offer};
+use std::alloc::Global;
+
+/// What a call was answered.
+pub fn told(alloc: Global, reply: &Reply) -> Result<String, NoMemory> {
+    Ok(match reply {
+        Reply::Done(done) => told_done(alloc, done)?,
+        Reply::Settled { amount } => format!(in alloc; "settled {amount}")?,
+        Reply::Again { amount } => format!(in alloc; "again {amount}")?,
+        Reply::FreeSet => String::from_str(alloc, "free-set")?,
+        Reply::Stopping => String::from_str(alloc, "stopping")?,
+        Reply::Refused(refusal) => told_refusal(alloc, refusal)?,
+        Reply::StoreFault { before, after } => format!(in alloc; "store-fault {before} {after}")?,
+        Reply::NoMemory => String::from_str(alloc, "no-memory")?,
+        // No call that a line can say has another reply.
+        _ => String::from_str(alloc, "another")?,
+    })
+}
+
+fn told_done(alloc: Global, done: &Done) -> Result<String, NoMemory> {
+    Ok(match done {
+        Done::NodeAdded { node } => {
+            let id = node.0;
+            format!(in alloc; "node {id}")?
+        }
+        Done::CustomerAdded { customer } => {
+            let id = customer.0;
+            format!(in alloc; "customer {id}")?
+        }
+        Done::Offer(offer) => told_offer(alloc, offer)?,
+        Done::Committed { segment } => {
+            let id = segment.0;
+            format!(in alloc; "committed {id}")?
+        }
+        Done::Deleted { segment } => {
+            let id = segment.0;
+            format!(in alloc; "deleted {id}")?
+        }
+    })
+}
+
+// The places are counted.
+fn told_offer(alloc: Global, offer: &Offer) -> Result<String, NoMemory> {
+    let customer = offer.customer.0;
+    let segment = offer.segment.0;
+    let serial = offer.serial.0;
+    let action = offer.action;
+    let piece_len = offer.piece_len;
+    let issued = offer.issued.seconds();
+    let places = offer.places.len();
+    Ok(format!(in alloc;
+        "offer {customer} {segment} {serial} {action} {piece_len} {issued} places {places}"
+    )?)
+}

@@ -1,0 +1,34 @@
+//! The real devices, tried over the system: connections on loopback, random words, the clock and ticks.
+//!
+//! Each case is a line of the output, which says what a device answered. The cases are its stored output, the same at
+//! every run. The ports are those that the system picks, and the program takes some three seconds.
+//!
+//! - `connections`: an exchange, clients that close, a taken port, a lane in a thread.
+//! - `endings`: unread bytes, a client that stays, one that resets, time that is up, waits that fail.
+//! - `machine`: words, moments and ticks of the system, and of one that fails when it is told to.
+//!
+//! Nothing is promised beyond `sat_devices`' contract.
+#![tactic(auto)]
+
+mod client;
+mod connections;
+mod endings;
+mod machine;
+mod scripted;
+
+use anyhow::Result;
+
+fn main(rt: HostRuntime) -> Result<()> {
+    connections::exchange(&rt)?;
+    connections::closed(&rt)?;
+    connections::taken_port(&rt)?;
+    connections::in_a_thread(&rt, &rt)?;
+    endings::unread(&rt)?;
+    endings::stays(&rt)?;
+    endings::reset(&rt)?;
+    endings::late(&rt)?;
+    endings::failed_wait(&rt)?;
+    machine::words(&rt)?;
+    machine::moments(&rt)?;
+    machine::ticks(&rt)
+}

@@ -1,0 +1,13 @@
+//! A book that is asked while it has room, and its rows and refusals in words.
+//!
+//! It is there for the `trial_` and `bench_` crates alone, and promises nothing beyond being safe and what a book needs: a
+//! [`Shelf`] has room for as many entries as it says, and is asked formed calls.
+#![tactic(auto)]
+
+mod noting;
+mod shelf;
+mod telling;
+
+pub use noting::row_of;
+pub use shelf::Shelf;
+pub use telling::told_open;
