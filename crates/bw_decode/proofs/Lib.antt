@@ -4,3 +4,4 @@ pub mod Locator
 pub mod Counts
 pub mod NearStripes
 pub mod Rounds
+pub mod Held

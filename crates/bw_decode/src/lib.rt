@@ -65,6 +65,3 @@ pub mod stripe;
 pub use laws::one_near_stripe;
 pub use outcome::{Column, Nearness};
 pub use scratch::Scratch;
-
-#[cfg(test)]
-mod tests;

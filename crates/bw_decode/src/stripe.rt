@@ -4,8 +4,7 @@ ghost use Rattle.bw_decode.specs.Altered.{is_altered, indexes_of};
 ghost use Rattle.bw_decode.specs.Answers.{marked, AreKnown, AreRight};
 
 use crate::answers::{
-    count_marked, find_disagreement, mark_off_codeword, mark_wrong_lengths, read_bytes,
-    read_indexes,
+    count_marked, mark_off_codeword, mark_wrong_lengths, read_bytes, read_indexes,
 };
 use crate::column::column;
 use crate::decoding::MOST_POINTS;
@@ -13,9 +12,6 @@ use crate::outcome::{Column, Nearness};
 use crate::prediction::predict;
 use crate::scratch::Scratch;
 use sat_base::{Scheme, Share};
-
-// The most bytes of a share.
-const LONGEST_SHARE: usize = 1024;
 
 // What one round of the decoding finds.
 #[derive(Clone, Copy)]
@@ -62,8 +58,7 @@ fn decode_round(
     let k = usize::from(scheme.k);
     let size = usize::from(scheme.share);
     predict(answers, points, blamed, k, size, out);
-    let mut share = [0; LONGEST_SHARE];
-    let Some(c) = find_disagreement(scheme, answers, blamed, out, &mut share[..size]) else {
+    let Some(c) = scratch.find_disagreement(scheme, answers, blamed, out) else {
         return Round::Found;
     };
     let mut values_room = [0; MOST_POINTS];

@@ -30,10 +30,18 @@ pub record NewStore : Type 0 where
   pub rates : Rates
   pub caps : Caps
 
+pub record Server : Type 0 where
+  pub store : List ℕ
+  pub port : ℕ
+  pub lanes : ℕ
+  pub term : ℕ
+  pub tick : ℕ
+
 pub data Asked : Type 0 where
   settle : (secret : List ℕ) (cap : ℕ) → Asked
   judge : (k share : ℕ) → Asked
   init : NewStore → Asked
+  serve : Server → Asked
 
 abbrev pub numbers_of : Scheme → Numbers
 numbers_of scheme = record { k = scheme.k; m = scheme.m; o = scheme.o; n = scheme.n; share = scheme.share }
@@ -51,10 +59,20 @@ asked (commands.Init store secret scheme vet fresh rates caps) = init (record {
   rates = rates;
   caps = caps;
 })
+asked (commands.Serve store port lanes term tick) = serve (record {
+  store = store;
+  port = port;
+  lanes = lanes;
+  term = term;
+  tick = tick;
+})
 
 -- the numbers of a command are within their bounds
 abbrev pub IsWithin : Command → Type 0
 IsWithin (commands.Judge k share) = (1 ≤ k) × (k ≤ bounds.JUDGED) × (1 ≤ share) × (share ≤ limits.SHARE)
+IsWithin (commands.Serve store port lanes term tick) =
+    ((1 ≤ port) × (port ≤ bounds.PORT)) × ((1 ≤ lanes) × (lanes ≤ bounds.LANES)) × ((1 ≤ term) × (term ≤ bounds.TERM))
+    × ((1 ≤ tick) × (tick ≤ bounds.TICK))
 IsWithin _ = Unit {0}
 
 -- ---- settle
@@ -207,6 +225,30 @@ init_of words =
     then init_with (value_of (codes "--store") words) (choices_of words) (scheme_of words) (rates_of words) (caps_of words)
     else None
 
+-- ---- serve
+
+abbrev pub serve_names : List (List ℕ)
+serve_names = codes "--store" ∷ codes "--port" ∷ codes "--lanes" ∷ codes "--term" ∷ codes "--tick" ∷ []
+
+abbrev pub serve_with : Option (List ℕ) → Option ℕ → Option ℕ → Option ℕ → Option ℕ → Option Server
+serve_with None port lanes term tick = None
+serve_with (Some store) None lanes term tick = None
+serve_with (Some store) (Some port) None term tick = None
+serve_with (Some store) (Some port) (Some lanes) None tick = None
+serve_with (Some store) (Some port) (Some lanes) (Some term) None = None
+serve_with (Some store) (Some port) (Some lanes) (Some term) (Some tick) =
+    Some (record { store = store; port = port; lanes = lanes; term = term; tick = tick })
+
+-- what the words behind `serve` ask for
+unfoldable pub serve_of : List (List ℕ) → Option Server
+serve_of words =
+    if is_form serve_names words
+    then serve_with (value_of (codes "--store") words) (number_within 1 bounds.PORT (value_of (codes "--port") words))
+    (number_or 1 1 bounds.LANES (value_of (codes "--lanes") words))
+    (number_or bounds.TERM 1 bounds.TERM (value_of (codes "--term") words))
+    (number_or bounds.USUAL_TICK 1 bounds.TICK (value_of (codes "--tick") words))
+    else None
+
 -- ---- all
 
 -- what the words ask for, if they are a command
@@ -215,9 +257,11 @@ command_of [] = None
 command_of (name ∷ words) =
     if same name (codes "settle") then settle_of words
     else (if same name (codes "judge") then judge_of words
-    else (if same name (codes "init") then option_map init (init_of words) else None))
+    else (if same name (codes "init") then option_map init (init_of words)
+    else (if same name (codes "serve") then option_map serve (serve_of words) else None)))
 
 -- a store is named
 abbrev pub names_store : Option Asked → Bool
 names_store (Some (init store)) = true
+names_store (Some (serve server)) = true
 names_store _ = false

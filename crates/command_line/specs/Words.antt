@@ -1,7 +1,10 @@
 -- What the words of a command say, as they were read.
+use Rattle.std.specs.Prelude.{◌≤◌}
 use Rattle.command_line.specs.declared.init.InitWords.{InitWords}
 use Rattle.command_line.specs.declared.init.Choices.{Choices}
+use Rattle.command_line.specs.declared.serve.ServeWords.{ServeWords}
 use Rattle.command_line.specs.Command as said
+use Rattle.command_line.specs.declared.bounds.TheConstants as bounds
 
 abbrev pub choices_said : Choices → said.Choices
 choices_said c = record { secret = c.secret; vet = c.vet; fresh = c.fresh }
@@ -16,3 +19,18 @@ init_said words = record {
   rates = words.rates;
   caps = words.caps;
 }
+
+abbrev pub serve_said : ServeWords → said.Server
+serve_said words = record {
+  store = words.store.now;
+  port = words.port;
+  lanes = words.lanes;
+  term = words.term;
+  tick = words.tick;
+}
+
+-- the numbers of a server are within their bounds
+abbrev pub AreWithin : ServeWords → Type 0
+AreWithin words =
+    ((1 ≤ words.port) × (words.port ≤ bounds.PORT)) × ((1 ≤ words.lanes) × (words.lanes ≤ bounds.LANES))
+    × ((1 ≤ words.term) × (words.term ≤ bounds.TERM)) × ((1 ≤ words.tick) × (words.tick ≤ bounds.TICK))

@@ -3,6 +3,21 @@
 /// The greatest `k` of a judged stripe.
 pub const JUDGED: u8 = 127;
 
+/// The first port of a server, so that all its lanes have one.
+pub const PORT: u16 = 65_520;
+
+/// The lanes of a server.
+pub const LANES: u16 = 16;
+
+/// The entries of a term.
+pub const TERM: u64 = 65_536;
+
+/// The seconds between two ticks: a day.
+pub const TICK: u32 = 86_400;
+
+/// The seconds between two ticks, where no others are asked for.
+pub const USUAL_TICK: u32 = 60;
+
 /// The bytes of a share, where no others are asked for.
 pub const USUAL_SHARE: u16 = 256;
 

@@ -1,12 +1,13 @@
 // The commands.
 ghost use Rattle.std.specs.Prelude.{◌≡◌, ◌↔◌, ◌≤◌, true, None, Some, Err, IfOk, IfSome, MatchResult, length, drop, option_map};
-ghost use Rattle.command_line.specs.Command.{IsWithin, asked, command_of, init_of, judge_of, names_store, settle_of};
-ghost use Rattle.command_line.specs.Command.Asked.{init};
-ghost use Rattle.command_line.specs.Words.{init_said};
+ghost use Rattle.command_line.specs.Command.{IsWithin, asked, command_of, init_of, judge_of, names_store, serve_of, settle_of};
+ghost use Rattle.command_line.specs.Command.Asked.{init, serve};
+ghost use Rattle.command_line.specs.Words.{AreWithin, init_said, serve_said};
 
 use crate::bounds;
 use crate::init::{InitWords, init_in};
 use crate::pairs::{has_form, value};
+use crate::serve::{ServeWords, serve_in};
 use crate::values::{number_in, number_or_in, secret_in};
 use sat_base::{Bytes, Caps, Items, Line, Rates, Scheme, limits};
 use std::alloc::Global;
@@ -33,6 +34,14 @@ pub enum Command {
         fresh: u8,
         rates: Rates,
         caps: Caps,
+    },
+    /// Serve a store on the ports from `port` on, one a lane, for at most `term` entries, with a tick every `tick` seconds.
+    Serve {
+        store: Bytes,
+        port: u16,
+        lanes: u16,
+        term: u64,
+        tick: u32,
     },
 }
 
@@ -108,6 +117,20 @@ fn init_command(alloc: Global, words: &InitWords<'_>) -> Result<Command, LineErr
     })
 }
 
+fn serve_command(alloc: Global, words: &ServeWords<'_>) -> Result<Command, LineErr>
+    requires { AreWithin words.now }
+    ensures { MatchResult result (λ c. (asked c ≡ serve (serve_said words.now)) × IsWithin c) (λ e. e ≡ LineErr.NoMemory) }
+{
+    let store = name(alloc, words.store)?;
+    Ok(Command::Serve {
+        store,
+        port: words.port,
+        lanes: words.lanes,
+        term: words.term,
+        tick: words.tick,
+    })
+}
+
 // The command that the words behind `init` are.
 fn read_init(alloc: Global, line: &Line) -> Result<Command, LineErr>
     requires { 1 ≤ length line.now }
@@ -122,13 +145,28 @@ fn read_init(alloc: Global, line: &Line) -> Result<Command, LineErr>
     }
 }
 
+// The command that the words behind `serve` are.
+fn read_serve(alloc: Global, line: &Line) -> Result<Command, LineErr>
+    requires { 1 ≤ length line.now }
+    ensures within { IfOk result IsWithin }
+    ensures command { IfOk result (λ c. option_map serve (serve_of (drop 1 line.now)) ≡ Some (asked c)) }
+    ensures usage { (result ≡ Err LineErr.Usage) ↔ (option_map serve (serve_of (drop 1 line.now)) ≡ None) }
+    ensures memory { result ≡ Err LineErr.NoMemory → names_store (option_map serve (serve_of (drop 1 line.now))) ≡ true }
+{
+    match serve_in(line) {
+        Some(words) => serve_command(alloc, &words),
+        None => Err(LineErr::Usage),
+    }
+}
+
 /// Reads the words of a command line, after the program's name:
 ///
 /// - `settle` with `--secret HEX64` and, where wanted, `--cap N`;
 /// - `judge` with `--k K` and `--share S`;
 /// - `init` with `--store FILE`, `--k`, `--m`, `--o` and `--n`, and, where wanted, `--secret HEX64`, `--share`, `--vet`,
 ///   `--fresh`, the rates `--get`, `--audit`, `--repair`, `--storage`, and the caps `--cap-nodes`, `--cap-customers`,
-///   `--cap-segments`, `--cap-settled`, `--cap-tallies`, `--cap-statements`.
+///   `--cap-segments`, `--cap-settled`, `--cap-tallies`, `--cap-statements`;
+/// - `serve` with `--store FILE` and `--port P` and, where wanted, `--lanes`, `--term` and `--tick`.
 ///
 /// Errors: `Usage` exactly for any other words; `NoMemory` only where a store is named.
 #[tactic(auto, unfolding(crate::specs::Command::command_of))]
@@ -150,6 +188,9 @@ pub fn read_line(alloc: Global, line: &Line) -> Result<Command, LineErr>
     }
     if name == "init" {
         return read_init(alloc, line);
+    }
+    if name == "serve" {
+        return read_serve(alloc, line);
     }
     Err(LineErr::Usage)
 }

@@ -12,6 +12,7 @@ pub mod bounds;
 mod command;
 mod init;
 mod pairs;
+mod serve;
 mod values;
 
 pub use command::{Command, LineErr, read_line};

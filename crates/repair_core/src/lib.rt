@@ -21,8 +21,8 @@ mod plan;
 mod rebuilder;
 mod rebuilding;
 mod rebuilt;
-#[cfg(test)]
-mod tests;
+mod room;
+mod stripes;
 
 pub use laws::windows_agree;
 pub use outcome::{Mended, RepairOutcome, Unmended};

@@ -8,9 +8,11 @@ ghost use Rattle.repair_core.specs.Indexes.{has_index, place_indexes};
 ghost use Rattle.repair_core.specs.Stripes.{HasNear};
 ghost use Rattle.repair_core.specs.Windows.{start_of, next_stripes, IsWindow, IsUnclearWindow};
 
-use crate::making::{Made, Room, indexes_at, mend_all};
+use crate::making::{Made, indexes_at};
 use crate::plan::RepairPlan;
 use crate::rebuilt::{Remade, WindowErr};
+use crate::room::Room;
+use crate::stripes::mend_all;
 use bw_decode::Scratch;
 use sat_base::{NoMemory, Scheme, Share};
 use std::alloc::Global;

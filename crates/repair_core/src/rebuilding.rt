@@ -10,9 +10,11 @@ ghost use Rattle.repair_core.specs.Rebuilt.{IsRebuilt};
 ghost use Rattle.repair_core.specs.Refusals.{IsRefusal};
 ghost use Rattle.repair_core.specs.Room.{IsRoom, IsMade, IsEncoder, AreKept};
 
-use crate::making::{Made, Room, mend};
+use crate::making::Made;
 use crate::plan::RepairPlan;
 use crate::rebuilt::{RebuildErr, Rebuilt};
+use crate::room::Room;
+use crate::stripes::mend;
 use bw_decode::{Nearness, Scratch};
 use sat_base::{Items, NoMemory, Scheme, Share};
 use std::alloc::Global;

@@ -1,5 +1,6 @@
 -- What contracts see of a book, and what holds of every book.
 use Rattle.std.specs.Prelude.{◌≡◌, ◌⊎◌, ℕ, ◌≤◌, List, [], Option, IsSomeAnd, true, false}
+use Rattle.std.specs.Option.{option_map}
 use Rattle.sat_base.specs.Rows.{Rows, AreInOrder, rows_of}
 use Rattle.machine_calls.specs.declared.call.Call.{Call}
 use Rattle.machine_calls.specs.declared.reply.Reply.{Reply}
@@ -13,17 +14,22 @@ use Rattle.sat_book.specs.Legal.{E, IsHistory, last_shown, replayed}
 use Rattle.sat_book.specs.Crash.{MayBeLeft}
 use Rattle.sat_book.specs.TableRows.{rows}
 use Rattle.sat_book.specs.declared.opening.Opening.{Opening}
+use Rattle.sat_book.specs.declared.opening.Origin.{Origin}
 
 -- the tables that a book was opened with
 abbrev pub start_of : Opening → Tables
 start_of opening = opening.core.value.tables
 
 -- what is true of the entries of a desk's book, and which calls may be entered
-abbrev pub AreOf : Option Opening → List E → Type 0
-AreOf base entries = IsSomeAnd base (λ opening. IsHistory (start_of opening) opening.faults entries)
+abbrev pub AreOf : {K : Type 0} → Option (Origin K) → List E → Type 0
+AreOf base entries = IsSomeAnd base (λ origin. IsHistory (start_of origin.opening) origin.opening.faults entries)
 
-abbrev pub MayEnter : Option Opening → Call → Type 0
-MayEnter base call = IsSomeAnd base (λ opening. IsWellFormed (start_of opening) call)
+abbrev pub MayEnter : {K : Type 0} → Option (Origin K) → Call → Type 0
+MayEnter base call = IsSomeAnd base (λ origin. IsWellFormed (start_of origin.opening) call)
+
+-- what a book was opened with, where it is known of which book a pass is
+abbrev pub opening_of : {K : Type 0} → Option (Origin K) → Option Opening
+opening_of base = option_map (λ origin. origin.opening) base
 
 -- the opening rows are those of the tables, which are valid, and the machine runs
 pub record Spell (opening : Opening) : Type 0 where
@@ -45,6 +51,10 @@ pub record BookView (K : Type 0) : Type 0 where
   pub history : List E
   -- how many the book has room for
   pub room : ℕ
+
+-- what no call changes of it
+abbrev pub origin_of : {K : Type 0} → BookView K → Origin K
+origin_of b = record { opening = b.opening; first = b.first; opened = b.opened }
 
 -- ---- over what keeps the rows
 

@@ -11,7 +11,7 @@ ghost use Rattle.sat_book.specs.Legal.{IsHistory, last_shown, replayed, said_of}
 use crate::answering::{Answer, take_step};
 use crate::entry::Entry;
 use crate::opened::{Ready, make_ready};
-use crate::opening::{NotOpened, Opening};
+use crate::opening::{NotOpened, Opening, Origin};
 use sat_base::{Keeper, Row};
 use sat_machine::{Call, Core, Reply};
 use std::alloc::Global;
@@ -190,7 +190,7 @@ impl<K: Keeper> Book<K> {
 
 impl<K: Keeper> Turn for Book<K> {
     ghost use Rattle.std.specs.Prelude.{Some, None};
-    ghost use Rattle.sat_book.specs.Book.{AreOf, MayEnter};
+    ghost use Rattle.sat_book.specs.Book.{AreOf, MayEnter, origin_of};
 
     type Call = Call;
 
@@ -198,9 +198,9 @@ impl<K: Keeper> Turn for Book<K> {
 
     type Answer = Answered;
 
-    type Base = Option<Opening>;
+    type Base = Option<Origin<K>>;
 
-    ghost base = { λ b. Some b.opening };
+    ghost base = { λ b. Some (origin_of b) };
 
     ghost nowhere = { None };
 

@@ -29,4 +29,4 @@ mod sorting;
 pub use book::{Answered, Book};
 pub use entry::Entry;
 pub use laws::rows_follow_changes;
-pub use opening::{NotOpened, OpenErr, Opening};
+pub use opening::{NotOpened, OpenErr, Opening, Origin};

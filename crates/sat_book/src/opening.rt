@@ -17,6 +17,15 @@ pub struct Opening {
     pub faults: u64,
 }
 
+/// What no call changes of a book: what it was opened with, and its keeper, as it was handed in and as the book was opened.
+/// No value of it is made.
+#[derive(Drop)]
+pub struct Origin<K> {
+    pub opening: Opening,
+    pub first: K,
+    pub opened: K,
+}
+
 /// Why no book was opened.
 #[derive(Debug, PartialEq, Eq, Drop)]
 pub enum OpenErr {

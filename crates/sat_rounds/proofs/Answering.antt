@@ -34,7 +34,7 @@ stops_if : (stops : Bool) (end : SessionEnd) (history : List E) → (stops ≡ t
 stops_if true end history f = f refl
 stops_if false end history f = tt
 
-pub answers_entered : (secret : List ℕ) (k : V) (call : Call) (reply : Reply) (place : ℕ) (k' : V) (listened after : About) (sent stops : Bool) → Enters AreOf k call reply place k' → stops ≡ stops_at reply → Speaks secret (says.Reply reply) sent listened after
+pub answers_entered : {K : Type 0} (secret : List ℕ) (k : V K) (call : Call) (reply : Reply) (place : ℕ) (k' : V K) (listened after : About) (sent stops : Bool) → Enters AreOf k call reply place k' → stops ≡ stops_at reply → Speaks secret (says.Reply reply) sent listened after
     → Answers secret k (listens.Call call) listened after (ends.Entered place sent) stops k'
 answers_entered secret k call reply place k' listened after sent stops d is spoke =
     let e : E = entry_of place k.number call reply in
@@ -54,7 +54,7 @@ answers_entered secret k call reply place k' listened after sent stops d is spok
       wrote = spoke.2;
     }
 
-pub answers_full : (secret : List ℕ) (k : V) (call : Call) (ticket : ℕ) (k' : V) (listened after : About) (sent : Bool) → (k' ≡ with_mark k ticket) × (k.desk.term ≤ ticket) → Speaks secret says.Term sent listened after
+pub answers_full : {K : Type 0} (secret : List ℕ) (k : V K) (call : Call) (ticket : ℕ) (k' : V K) (listened after : About) (sent : Bool) → (k' ≡ with_mark k ticket) × (k.desk.term ≤ ticket) → Speaks secret says.Term sent listened after
     → Answers secret k (listens.Call call) listened after (ends.TermFull ticket sent) false k'
 answers_full secret k call ticket k' listened after sent full spoke = record {
   new = [];
@@ -71,7 +71,7 @@ answers_full secret k call ticket k' listened after sent full spoke = record {
   wrote = spoke.2;
 }
 
-pub answers_edge : (secret : List ℕ) (k : V) (error : EdgeErr) (listened after : About) (sent : Bool) → Speaks secret (says.Edge error) sent listened after → Answers secret k (listens.Edge error) listened after (ends.Edge error sent) false k
+pub answers_edge : {K : Type 0} (secret : List ℕ) (k : V K) (error : EdgeErr) (listened after : About) (sent : Bool) → Speaks secret (says.Edge error) sent listened after → Answers secret k (listens.Edge error) listened after (ends.Edge error sent) false k
 answers_edge secret k error listened after sent spoke = record {
   new = [];
   entered = entered_none k;
@@ -87,7 +87,7 @@ answers_edge secret k error listened after sent spoke = record {
   wrote = spoke.2;
 }
 
-pub answers_wordless : (secret : List ℕ) (k : V) (listened after : About) (sent : Bool) → Speaks secret says.Words sent listened after → Answers secret k listens.WordsFault listened after (ends.WordsFault sent) false k
+pub answers_wordless : {K : Type 0} (secret : List ℕ) (k : V K) (listened after : About) (sent : Bool) → Speaks secret says.Words sent listened after → Answers secret k listens.WordsFault listened after (ends.WordsFault sent) false k
 answers_wordless secret k listened after sent spoke = record {
   new = [];
   entered = entered_none k;
@@ -106,7 +106,7 @@ answers_wordless secret k listened after sent spoke = record {
 wrote_none : (o : About) → Wrote [] true o o
 wrote_none o = record { all = λ t. sym (with_end-none o.written); some = (0, omega arith, sym (with_end-none o.written)); faults = refl; input = keeps_all_input o }
 
-pub answers_unread : (secret : List ℕ) (k : V) (listened : About) → Answers secret k listens.ReadFault listened listened ends.ReadFault false k
+pub answers_unread : {K : Type 0} (secret : List ℕ) (k : V K) (listened : About) → Answers secret k listens.ReadFault listened listened ends.ReadFault false k
 answers_unread secret k listened = record {
   new = [];
   entered = entered_none k;
@@ -123,13 +123,13 @@ answers_unread secret k listened = record {
 }
 
 -- what is told of a session that entered nothing
-pub answers_as : (secret : List ℕ) (k : V) (heard heard0 : Listened) (listened after : About) (k' : V) (end' : SessionEnd) (stops : Bool) (k0 : V) (end0 : SessionEnd) → heard ≡ heard0 → (k' ≡ k0) × (end' ≡ end0) × (stops ≡ false)
+pub answers_as : {K : Type 0} (secret : List ℕ) (k : V K) (heard heard0 : Listened) (listened after : About) (k' : V K) (end' : SessionEnd) (stops : Bool) (k0 : V K) (end0 : SessionEnd) → heard ≡ heard0 → (k' ≡ k0) × (end' ≡ end0) × (stops ≡ false)
     → Answers secret k heard0 listened after end0 false k0 → Answers secret k heard listened after end' stops k'
-answers_as secret k heard heard0 listened after k' end' stops k0 end0 is same a =
-    subst (λ (z : V × SessionEnd × Bool × Listened). Answers secret k z.3 listened after z.1 z.2 z.0) (λ i. (sym same.0 i, sym same.1 i, sym same.2 i, sym is i)) a
+answers_as {K} secret k heard heard0 listened after k' end' stops k0 end0 is same a =
+    subst (λ (z : V K × SessionEnd × Bool × Listened). Answers secret k z.3 listened after z.1 z.2 z.0) (λ i. (sym same.0 i, sym same.1 i, sym same.2 i, sym is i)) a
 
 -- a session is listening, and then an answer
-pub serves_heard : (secret : List ℕ) (k : V) (told : Told) (about listened after : About) (heard : Listened) (end : SessionEnd) (stops : Bool) (k' : V) → Hears secret about.left told heard
+pub serves_heard : {K : Type 0} (secret : List ℕ) (k : V K) (told : Told) (about listened after : About) (heard : Listened) (end : SessionEnd) (stops : Bool) (k' : V K) → Hears secret about.left told heard
     → (bytes : List ℕ) × Took (MayRead secret) bytes 1 (failed_to_read heard) about listened × (length bytes ≤ max_request)
     → CountsExactly (failed_to_draw heard) told.faults told.faults_after → Answers secret k heard listened after end stops k' → Serves secret k told about after end k'
 serves_heard secret k told about listened after heard end stops k' hears took drew a = record {

@@ -16,7 +16,7 @@ use Rattle.http_edge.specs.declared.wish.EdgeErr.TheVariants as edges
 use Rattle.http_edge.specs.declared.wish.Wish.{Wish}
 use Rattle.sat_book.specs.Legal.{E, IsHistory}
 use Rattle.sat_book.specs.Book.{AreOf, start_of}
-use Rattle.sat_book.specs.declared.opening.Opening.{Opening}
+use Rattle.sat_book.specs.declared.opening.Origin.{Origin}
 use Rattle.sat_rounds.specs.Good.{GoodAreAnswered, IsAnswered, IsDone, IsGood, Quiet, is_refused, is_store_fault, tables_at}
 use Rattle.sat_rounds.specs.Listening.{Told, Hears, failed_to_draw, failed_to_read}
 use Rattle.sat_rounds.specs.Serves.{IfEntered}
@@ -137,7 +137,7 @@ module _ (one : HeadsSayOne) (secret : List ℕ) (start : Tables) (count term : 
       }
 
 -- of a session whose pass knows the book's opening
-pub good_session : GoodAreAnswered → (secret : List ℕ) (base : Option Opening) (term : ℕ) (told : Told) (about after : About) (seen : List E) (end : SessionEnd) → IfEntered end (AreOf base seen) → Connects secret term told about after seen end
-    → IfSome base (λ opening. IsGood secret (start_of opening) told about after seen end → IsAnswered secret (start_of opening) about after seen end)
+pub good_session : {K : Type 0} → GoodAreAnswered → (secret : List ℕ) (base : Option (Origin K)) (term : ℕ) (told : Told) (about after : About) (seen : List E) (end : SessionEnd) → IfEntered end (AreOf base seen) → Connects secret term told about after seen end
+    → IfSome base (λ origin. IsGood secret (start_of origin.opening) told about after seen end → IsAnswered secret (start_of origin.opening) about after seen end)
 good_session law secret None term told about after seen end lawful connects = tt
-good_session law secret (Some opening) term told about after seen end lawful connects = λ good. law secret (start_of opening) opening.faults term told about after seen end lawful connects good
+good_session law secret (Some origin) term told about after seen end lawful connects = λ good. law secret (start_of origin.opening) origin.opening.faults term told about after seen end lawful connects good

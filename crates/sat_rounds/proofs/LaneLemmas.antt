@@ -1,20 +1,22 @@
 -- Sessions, one after another.
 use Rattle.std.proofs.Common.{◌≡◌, ℕ, suc, zero, ◌+◌, List, [], ◌∷◌, ◌++◌, length, Bool, true, false, Some, refl, sym, ap, ◌∙◌, subst, arith, length-append}
-use Rattle.std.specs.Prelude.{slice_get, Option, IsSome}
+use Rattle.std.specs.Prelude.{slice_get, Option, IsSome, ◌||◌}
 use Rattle.sat_base.specs.Lane.{LaneView, handed, got_back}
 use Rattle.sat_base.specs.Outside.{About}
 use Rattle.turnstile.specs.History.{StartsWith}
 use Rattle.turnstile.specs.Known.{DeskId}
-use Rattle.desk_runs.specs.Runs.{Does, Lasts}
+use Rattle.desk_runs.specs.Runs.{Does, Lasts, some_is}
 use Rattle.desk_runs.proofs.Running.{runs_more}
 use Rattle.sat_book.specs.Legal.{E}
-use Rattle.sat_book.specs.declared.opening.Opening.{Opening}
-use Rattle.sat_rounds.specs.Lanes.{PostView, told_of, LaneTells, AreNumbered, Closes, LaneRuns, LaneRan, session_places, session_full}
-use Rattle.sat_rounds.specs.Serves.{Serves, IfStops}
+use Rattle.sat_book.specs.declared.opening.Origin.{Origin}
+use Rattle.sat_rounds.specs.Lanes.{PostView, told_of, LaneTells, AreNumbered, Closes, LaneRuns, LaneRan, is_term_full, session_places, session_full}
+use Rattle.sat_rounds.specs.Serves.{Serves, IfStops, StopsAt}
 use Rattle.sat_rounds.specs.Sessions.{V, Connects, is_full}
 use Rattle.sat_rounds.specs.declared.lanes.LaneEnd.{LaneEnd}
 use Rattle.sat_rounds.specs.declared.lanes.LaneEnd.TheVariants as causes
 use Rattle.sat_rounds.specs.declared.told.Session.{Session}
+use Rattle.sat_rounds.specs.declared.told.SessionEnd.{SessionEnd}
+use Rattle.sat_rounds.specs.declared.told.SessionEnd.TheVariants as ends
 use Rattle.sat_rounds.proofs.Ending.{connects_later, stops_later}
 
 pub lane_lasts : (secret : List ℕ) (term : ℕ) → Lasts (LaneTells secret term)
@@ -48,7 +50,7 @@ numbered_more : (xs : List Session) (y : Session) (n : ℕ) → AreNumbered xs �
 numbered_more xs y n f len is = get_snoc (λ i (x : Session). x.number ≡ i) xs y f (is ∙ sym len)
 
 -- one session of a lane, put together
-does_one : (secret : List ℕ) (term : ℕ) (s s' : PostView) (k k' : V) (x : Session) (link link_after : About) → k.desk.term ≡ term → s.lane.over ≡ false → s'.lane ≡ got_back (handed s.lane link) link_after → Serves secret k (told_of s s') link link_after x.end k'
+does_one : {K : Type 0} (secret : List ℕ) (term : ℕ) (s s' : PostView) (k k' : V K) (x : Session) (link link_after : About) → k.desk.term ≡ term → s.lane.over ≡ false → s'.lane ≡ got_back (handed s.lane link) link_after → Serves secret k (told_of s s') link link_after x.end k'
     → Does session_places session_full (LaneTells secret term) s k x s' k'
 does_one secret term s s' k k' x link link_after same open' lane h = record {
   new = h.new;
@@ -65,8 +67,31 @@ does_one secret term s s' k k' x link link_after same open' lane h = record {
   };
 }
 
--- a lane's worker, so far
-pub record SoFar (secret : List ℕ) (desk : DeskId) (s0 : PostView) (k0 : V) (xs : List Session) (n : ℕ) (s : PostView) (k : V) : Type 0 where
+neither_of : (a b : Bool) → (a || b) ≡ false → (a ≡ false) × (b ≡ false)
+neither_of true b h = absurd (cc)
+neither_of false b h = (refl, h)
+
+-- the last one is met where none before it was
+met_more : (xs : List Session) (y : Session) → some_is session_full xs ≡ false → some_is session_full (xs ++ y ∷ []) ≡ session_full y
+met_more [] y none = go (session_full y)
+  where
+    go : (b : Bool) → b || false ≡ b
+    go true = refl
+    go false = refl
+met_more (x ∷ xs) y none =
+    let both = neither_of (session_full x) (some_is session_full xs) none in
+    ap (λ (b : Bool). b || some_is session_full (xs ++ y ∷ [])) both.0 ∙ met_more xs y both.1
+
+-- a session that stops its worker has an entry
+stops_unfull : (end : SessionEnd) (history : List E) → StopsAt end history → is_full end ≡ false
+stops_unfull (ends.Entered place sent) history h = refl
+stops_unfull (ends.Edge error sent) history h = refl
+stops_unfull ends.ReadFault history h = refl
+stops_unfull (ends.WordsFault sent) history h = refl
+stops_unfull (ends.TermFull ticket sent) history h = absurd h
+
+-- a lane's worker, so far; whether it met the full term
+pub record SoFar {K : Type 0} (secret : List ℕ) (desk : DeskId) (s0 : PostView) (k0 : V K) (xs : List Session) (n : ℕ) (s : PostView) (k : V K) (met : Bool) : Type 0 where
   pub runs : LaneRuns secret desk.term s0 k0 xs s k
   pub desk_is : k.desk ≡ desk
   pub desk_was : k0.desk ≡ desk
@@ -74,14 +99,15 @@ pub record SoFar (secret : List ℕ) (desk : DeskId) (s0 : PostView) (k0 : V) (x
   pub some : IsSome k.base
   pub count : length xs ≡ n
   pub numbered : AreNumbered xs
+  pub met_is : some_is session_full xs ≡ met
 
-pub so_far_none : (secret : List ℕ) (desk : DeskId) (s : PostView) (k : V) → k.desk ≡ desk → IsSome k.base → SoFar secret desk s k [] 0 s k
-so_far_none secret desk s k same some = record { runs = (refl, refl); desk_is = same; desk_was = same; base_is = refl; some = some; count = refl; numbered = numbered_none }
+pub so_far_none : {K : Type 0} (secret : List ℕ) (desk : DeskId) (s : PostView) (k : V K) → k.desk ≡ desk → IsSome k.base → SoFar secret desk s k [] 0 s k false
+so_far_none secret desk s k same some = record { runs = (refl, refl); desk_is = same; desk_was = same; base_is = refl; some = some; count = refl; numbered = numbered_none; met_is = refl }
 
-pub so_far_more : (secret : List ℕ) (desk : DeskId) (s0 : PostView) (k0 : V) (xs : List Session) (n : ℕ) (s : PostView) (k : V) (x : Session) (link link_after : About) (m : LaneView) (s' : PostView) (k' : V) (zs ys : List Session)
-    → SoFar secret desk s0 k0 xs n s k → s.lane.over ≡ false → m ≡ handed s.lane link → s'.lane ≡ got_back m link_after → Serves secret k (told_of s s') link link_after x.end k' → x.number ≡ n → zs ≡ xs → ys ≡ zs ++ x ∷ []
-    → SoFar secret desk s0 k0 ys (n + 1) s' k'
-so_far_more secret desk s0 k0 xs n s k x link link_after m s' k' zs ys far open' came back h num same added =
+pub so_far_more : {K : Type 0} (secret : List ℕ) (desk : DeskId) (s0 : PostView) (k0 : V K) (xs : List Session) (n : ℕ) (s : PostView) (k : V K) (x : Session) (link link_after : About) (m : LaneView) (s' : PostView) (k' : V K) (zs ys : List Session)
+    → SoFar secret desk s0 k0 xs n s k false → s.lane.over ≡ false → m ≡ handed s.lane link → s'.lane ≡ got_back m link_after → Serves secret k (told_of s s') link link_after x.end k' → x.number ≡ n → zs ≡ xs → ys ≡ zs ++ x ∷ []
+    → SoFar secret desk s0 k0 ys (n + 1) s' k' (session_full x)
+so_far_more {K} secret desk s0 k0 xs n s k x link link_after m s' k' zs ys far open' came back h num same added =
     let grew : ys ≡ xs ++ x ∷ [] = added ∙ ap (λ (l : List Session). l ++ x ∷ []) same in
     let lane : s'.lane ≡ got_back (handed s.lane link) link_after = back ∙ ap (λ (l : LaneView). got_back l link_after) came in
     record {
@@ -89,25 +115,32 @@ so_far_more secret desk s0 k0 xs n s k x link link_after m s' k' zs ys far open'
       desk_is = h.entered.rights.desk ∙ far.desk_is;
       desk_was = far.desk_was;
       base_is = h.entered.rights.base ∙ far.base_is;
-      some = subst (λ (b : Option Opening). IsSome b) (sym h.entered.rights.base) far.some;
+      some = subst (λ (b : Option (Origin K)). IsSome b) (sym h.entered.rights.base) far.some;
       count = ap length grew ∙ (length-append xs (x ∷ []) ∙ (let c = far.count in omega arith));
       numbered = subst AreNumbered (sym grew) (numbered_more xs x n far.numbered far.count num);
+      met_is = ap (some_is session_full) grew ∙ met_more xs x far.met_is;
     }
 
-pub ran_as : (secret : List ℕ) (desk : DeskId) (s0 : PostView) (k0 : V) (xs : List Session) (n : ℕ) (s : PostView) (k : V) (end : LaneEnd) (zs : List Session) (s' : PostView) → SoFar secret desk s0 k0 xs n s k → zs ≡ xs → Closes end xs k.seen s s' → LaneRan secret desk.term s0 k0 zs end s' k
-ran_as secret desk s0 k0 xs n s k end zs s' far same closes = subst (λ (l : List Session). LaneRan secret desk.term s0 k0 l end s' k) (sym same) (record {
+pub far_on : {K : Type 0} (secret : List ℕ) (desk : DeskId) (s0 : PostView) (k0 : V K) (xs : List Session) (n : ℕ) (s : PostView) (k : V K) {met : Bool} → met ≡ false → SoFar secret desk s0 k0 xs n s k met → SoFar secret desk s0 k0 xs n s k false
+far_on secret desk s0 k0 xs n s k none far = subst (SoFar secret desk s0 k0 xs n s k) none far
+
+pub ran_as : {K : Type 0} (secret : List ℕ) (desk : DeskId) (s0 : PostView) (k0 : V K) (xs : List Session) (n : ℕ) (s : PostView) (k : V K) (end : LaneEnd) (zs : List Session) (s' : PostView) (met : Bool) → SoFar secret desk s0 k0 xs n s k met → met ≡ is_term_full end → zs ≡ xs → Closes end xs k.seen s s' → LaneRan secret desk.term s0 k0 zs end s' k
+ran_as secret desk s0 k0 xs n s k end zs s' met far ended same closes = subst (λ (l : List Session). LaneRan secret desk.term s0 k0 l end s' k) (sym same) (record {
   before_last = s;
   runs = far.runs;
   closes = closes;
   numbered = far.numbered;
+  met = far.met_is ∙ ended;
   desk = far.desk_is ∙ sym far.desk_was;
   base = far.base_is;
 })
 
-pub ran_stopped : (secret : List ℕ) (desk : DeskId) (s0 : PostView) (k0 : V) (xs : List Session) (x : Session) (n : ℕ) (s' : PostView) (k' : V) (ys : List Session) (stops : Bool)
-    → SoFar secret desk s0 k0 ys n s' k' → ys ≡ xs ++ x ∷ [] → IfStops stops x.end k'.seen → stops ≡ true → LaneRan secret desk.term s0 k0 ys causes.Stopped s' k'
-ran_stopped secret desk s0 k0 xs x n s' k' ys stops far grew stopped so = ran_as secret desk s0 k0 ys n s' k' causes.Stopped ys s' far refl (refl, (xs, x, grew, subst (λ (b : Bool). IfStops b x.end k'.seen) so stopped))
+pub ran_stopped : {K : Type 0} (secret : List ℕ) (desk : DeskId) (s0 : PostView) (k0 : V K) (xs : List Session) (x : Session) (n : ℕ) (s' : PostView) (k' : V K) (ys : List Session) (stops : Bool)
+    → SoFar secret desk s0 k0 ys n s' k' (session_full x) → ys ≡ xs ++ x ∷ [] → IfStops stops x.end k'.seen → stops ≡ true → LaneRan secret desk.term s0 k0 ys causes.Stopped s' k'
+ran_stopped secret desk s0 k0 xs x n s' k' ys stops far grew stopped so =
+    let at : StopsAt x.end k'.seen = subst (λ (b : Bool). IfStops b x.end k'.seen) so stopped in
+    ran_as secret desk s0 k0 ys n s' k' causes.Stopped ys s' (session_full x) far (stops_unfull x.end k'.seen at) refl (refl, (xs, x, grew, at))
 
-pub ran_full : (secret : List ℕ) (desk : DeskId) (s0 : PostView) (k0 : V) (xs : List Session) (x : Session) (n : ℕ) (s' : PostView) (k' : V) (ys : List Session)
-    → SoFar secret desk s0 k0 ys n s' k' → ys ≡ xs ++ x ∷ [] → is_full x.end ≡ true → LaneRan secret desk.term s0 k0 ys causes.TermFull s' k'
-ran_full secret desk s0 k0 xs x n s' k' ys far grew so = ran_as secret desk s0 k0 ys n s' k' causes.TermFull ys s' far refl (refl, (xs, x, grew, so))
+pub ran_full : {K : Type 0} (secret : List ℕ) (desk : DeskId) (s0 : PostView) (k0 : V K) (xs : List Session) (x : Session) (n : ℕ) (s' : PostView) (k' : V K) (ys : List Session)
+    → SoFar secret desk s0 k0 ys n s' k' (session_full x) → ys ≡ xs ++ x ∷ [] → is_full x.end ≡ true → LaneRan secret desk.term s0 k0 ys causes.TermFull s' k'
+ran_full secret desk s0 k0 xs x n s' k' ys far grew so = ran_as secret desk s0 k0 ys n s' k' causes.TermFull ys s' (session_full x) far so refl (refl, (xs, x, grew, so))

@@ -14,7 +14,7 @@ use Rattle.machine_step.proofs.Replies.{step_sayable}
 use Rattle.machine_history.specs.History.{Said, IsLegal, IsRight, taken}
 use Rattle.sat_book.specs.Book.{AreOf, MayEnter, start_of}
 use Rattle.sat_book.specs.Legal.{E, IsHistory, said_of}
-use Rattle.sat_book.specs.declared.opening.Opening.{Opening}
+use Rattle.sat_book.specs.declared.opening.Origin.{Origin}
 use Rattle.sat_rounds.specs.Good.{tables_at}
 use Rattle.sat_rounds.specs.Sessions.{V}
 
@@ -33,15 +33,15 @@ sayable_right t said r = go (is_lost said.reply) refl
     go true h = right_of (is_told said.reply) (is_lost said.reply) h
     go false h = ap is_sayable (r.answer h) ∙ step_sayable t said.call
 
-sayable_in : (base : Option Opening) (h : List E) (place : ℕ) (e : E) → AreOf base h → At h place e → is_sayable e.reply ≡ true
+sayable_in : {K : Type 0} (base : Option (Origin K)) (h : List E) (place : ℕ) (e : E) → AreOf base h → At h place e → is_sayable e.reply ≡ true
 sayable_in None h place e lawful at = absurd lawful
-sayable_in (Some opening) h place e lawful at = sayable_right (tables_at (start_of opening) h place) (said_of e) (right_at (start_of opening) opening.faults h place e lawful at)
+sayable_in (Some origin) h place e lawful at = sayable_right (tables_at (start_of origin.opening) h place) (said_of e) (right_at (start_of origin.opening) origin.opening.faults h place e lawful at)
 
 -- the reply of a call that was entered can be said
-pub sayable_entered : (k : V) (call : Call) (reply : Reply) (place : ℕ) (k' : V) → Enters AreOf k call reply place k' → is_sayable reply ≡ true
+pub sayable_entered : {K : Type 0} (k : V K) (call : Call) (reply : Reply) (place : ℕ) (k' : V K) → Enters AreOf k call reply place k' → is_sayable reply ≡ true
 sayable_entered k call reply place k' d = sayable_in k.base k'.seen place (record { place = place; pass = k.number; call = call; reply = reply }) d.just (stands AreOf k call reply place k' d)
 
 -- a call that is formed may be entered
-pub may_enter : (base : Option Opening) (call : Call) → IsSome base → IsFormed call → MayEnter base call
+pub may_enter : {K : Type 0} (base : Option (Origin K)) (call : Call) → IsSome base → IsFormed call → MayEnter base call
 may_enter None call some formed = absurd (cc)
-may_enter (Some opening) call some formed = formed
+may_enter (Some origin) call some formed = formed

@@ -2,7 +2,7 @@
 use Rattle.std.specs.Prelude.{◌≡◌, ℕ, List, [], ◌∷◌, ◌++◌, length, Bool, true, false, Option, Some, slice_get}
 use Rattle.sat_base.specs.Lane.{LaneView, handed, got_back}
 use Rattle.sat_base.specs.Outside.{About, raised}
-use Rattle.desk_runs.specs.Runs.{Runs}
+use Rattle.desk_runs.specs.Runs.{Runs, some_is}
 use Rattle.sat_book.specs.Legal.{E}
 use Rattle.sat_rounds.specs.Draws.{Draws}
 use Rattle.sat_rounds.specs.Listening.{Told}
@@ -42,7 +42,7 @@ session_places x = places_of x.end
 abbrev pub session_full : Session → Bool
 session_full x = is_full x.end
 
-abbrev pub LaneRuns : List ℕ → ℕ → PostView → V → List Session → PostView → V → Type 0
+abbrev pub LaneRuns : {K : Type 0} → List ℕ → ℕ → PostView → V K → List Session → PostView → V K → Type 0
 LaneRuns secret term = Runs session_places session_full (LaneTells secret term)
 
 -- a session's number is its place in the list
@@ -62,11 +62,18 @@ Closes causes.TermFull xs history s s' = (s' ≡ s) × IsLast xs (λ x. is_full 
 Closes causes.Many xs history s s' = (s' ≡ s) × (length xs ≡ 65536)
 Closes causes.NoMemory xs history s s' = s' ≡ s
 
+-- the worker ended since the term is full
+abbrev pub is_term_full : LaneEnd → Bool
+is_term_full causes.TermFull = true
+is_term_full _ = false
+
 -- the worker of a lane: its sessions, each from where the one before it ended, and then its last wait
-pub record LaneRan (secret : List ℕ) (term : ℕ) (s : PostView) (k : V) (xs : List Session) (end : LaneEnd) (s' : PostView) (k' : V) : Type 0 where
+pub record LaneRan {K : Type 0} (secret : List ℕ) (term : ℕ) (s : PostView) (k : V K) (xs : List Session) (end : LaneEnd) (s' : PostView) (k' : V K) : Type 0 where
   pub before_last : PostView
   pub runs : LaneRuns secret term s k xs before_last k'
   pub closes : Closes end xs k'.seen before_last s'
   pub numbered : AreNumbered xs
+  -- it ended at the first session that met the full term
+  pub met : some_is session_full xs ≡ is_term_full end
   pub desk : k'.desk ≡ k.desk
   pub base : k'.base ≡ k.base

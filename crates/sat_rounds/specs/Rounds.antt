@@ -2,7 +2,7 @@
 use Rattle.std.specs.Prelude.{◌≡◌, ℕ, List, [], ◌∷◌, ◌++◌, Bool, true, false, Option}
 use Rattle.sat_base.specs.Outside.{raised}
 use Rattle.sat_base.specs.Ticks.{TicksView}
-use Rattle.desk_runs.specs.Runs.{Lasts, Runs}
+use Rattle.desk_runs.specs.Runs.{Lasts, Runs, some_is}
 use Rattle.sat_book.specs.Legal.{E}
 use Rattle.sat_rounds.specs.Draws.{Draws}
 use Rattle.sat_rounds.specs.Listening.{Told}
@@ -38,6 +38,14 @@ ends_rounds (ends.TermFull ticket) = true
 ends_rounds ends.Stopped = true
 ends_rounds _ = false
 
+abbrev pub round_ends : Round → Bool
+round_ends x = ends_rounds x.end
+
+-- the worker ended by its last round
+abbrev pub is_by_round : RoundsEnd → Bool
+is_by_round causes.Round = true
+is_by_round _ = false
+
 module _ {N : Type 0} where
   -- what the clock and the source of words of a kit tell before and after
   abbrev pub told_of_kit : KitView N → KitView N → Told
@@ -50,7 +58,7 @@ module _ {N : Type 0} where
     pub draws : Draws (told_of_kit s s') new
     pub tells : Tells s x new history s'
 
-  abbrev pub RoundRuns : (KitView N → Round → List E → List E → KitView N → Type 0) → KitView N → V → List Round → KitView N → V → Type 0
+  abbrev pub RoundRuns : {K : Type 0} → (KitView N → Round → List E → List E → KitView N → Type 0) → KitView N → V K → List Round → KitView N → V K → Type 0
   RoundRuns Tells = Runs round_places round_full (RoundTells Tells)
 
   -- why the worker ended behind these rounds, and what its last wait changed
@@ -60,11 +68,13 @@ module _ {N : Type 0} where
   RoundsClose causes.NoMemory xs s s' = s' ≡ s
 
   -- a worker of rounds: its rounds, each from where the one before it ended, and then its last wait
-  pub record RoundsRan (Tells : KitView N → Round → List E → List E → KitView N → Type 0) (s : KitView N) (k : V) (xs : List Round) (end : RoundsEnd) (s' : KitView N) (k' : V) : Type 0 where
+  pub record RoundsRan {K : Type 0} (Tells : KitView N → Round → List E → List E → KitView N → Type 0) (s : KitView N) (k : V K) (xs : List Round) (end : RoundsEnd) (s' : KitView N) (k' : V K) : Type 0 where
     pub before_last : KitView N
     pub runs : RoundRuns Tells s k xs before_last k'
     pub closes : RoundsClose end xs before_last s'
     pub desk : k'.desk ≡ k.desk
     pub base : k'.base ≡ k.base
+    -- it ended at the first round behind which none comes
+    pub met : some_is round_ends xs ≡ is_by_round end
     -- what is told over a history holds over each that begins with it
     pub lasts : Lasts Tells

@@ -35,7 +35,7 @@ IsOf heard (e ∷ []) = heard ≡ listens.Call e.call
 IsOf heard (e ∷ f ∷ more) = ⊥
 
 -- what was heard is entered once, or isn't where it is no call or the term is full; and it is answered
-pub record Answers (secret : List ℕ) (before : V) (heard : Listened) (listened after : About) (end : SessionEnd) (stops : Bool) (k : V) : Type 0 where
+pub record Answers {K : Type 0} (secret : List ℕ) (before : V K) (heard : Listened) (listened after : About) (end : SessionEnd) (stops : Bool) (k : V K) : Type 0 where
   pub new : List E
   pub entered : Entered before new k
   pub named : map place_of new ≡ places_of end
@@ -51,7 +51,7 @@ pub record Answers (secret : List ℕ) (before : V) (heard : Listened) (listened
 
 -- A session: it entered just the entry that it names, of the call that it heard, and what the pass has seen is then a history
 -- of the book. Its moment and words are those that its clock and source gave.
-pub record Serves (secret : List ℕ) (before : V) (told : Told) (about after : About) (end : SessionEnd) (k : V) : Type 0 where
+pub record Serves {K : Type 0} (secret : List ℕ) (before : V K) (told : Told) (about after : About) (end : SessionEnd) (k : V K) : Type 0 where
   pub new : List E
   pub entered : Entered before new k
   pub named : map place_of new ≡ places_of end

@@ -11,7 +11,7 @@ use Rattle.machine_calls.specs.declared.reply.Reply.{Reply}
 use Rattle.machine_calls.specs.declared.reply.Reply.TheVariants as replies
 use Rattle.http_edge.specs.Requests.{MayRead, max_request}
 use Rattle.sat_book.specs.Legal.{E}
-use Rattle.sat_book.specs.declared.opening.Opening.{Opening}
+use Rattle.sat_book.specs.declared.opening.Origin.{Origin}
 use Rattle.sat_rounds.specs.Listening.{Told, Hears, failed_to_draw, failed_to_read}
 use Rattle.sat_rounds.specs.Speaking.{Tells}
 use Rattle.sat_rounds.specs.declared.listening.Listened.{Listened}
@@ -21,9 +21,9 @@ use Rattle.sat_rounds.specs.declared.speaking.Said.TheVariants as says
 use Rattle.sat_rounds.specs.declared.told.SessionEnd.{SessionEnd}
 use Rattle.sat_rounds.specs.declared.told.SessionEnd.TheVariants as ends
 
--- what is known of a pass at a desk of books
-abbrev pub V : Type 0
-V = Known Call Reply (Option Opening)
+-- what is known of a pass at a desk of books over keepers K
+abbrev pub V : Type 0 → Type 0
+V K = Known Call Reply (Option (Origin K))
 
 -- the places that a session names
 abbrev pub places_of : SessionEnd → List ℕ

@@ -39,8 +39,8 @@ pub enum LaneEnd {
 
 /// What the worker of a lane leaves.
 #[derive(Drop)]
-pub struct LaneWorked<L, T, W> {
-    pub pass: BookPass,
+pub struct LaneWorked<K, L, T, W> {
+    pub pass: BookPass<K>,
     pub post: Post<L, T, W>,
     pub sessions: Vec<Session>,
     pub end: LaneEnd,
@@ -62,12 +62,12 @@ pub fn lane_worker<K: Keeper, L: Lane, T: Clock, W: Words, G: Gate, R: Wait>(
     rt: &R,
     alloc: Global,
     desk: &Desk<Book<K>>,
-    pass: BookPass,
+    pass: BookPass<K>,
     keys: &Keys,
     post: Post<L, T, W>,
     gate: &G,
     lane: u16,
-) -> LaneWorked<L, T, W>
+) -> LaneWorked<K, L, T, W>
     requires desk { pass.desk ≡ desk.now }
     requires base { IsSome pass.base }
     ensures { LaneRan keys.now desk.now.term (post_view L.about T.coming W.left W.faults post) pass result.sessions.items result.end

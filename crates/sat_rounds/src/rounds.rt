@@ -43,8 +43,8 @@ pub enum RoundsEnd {
 
 /// What a worker of rounds leaves: its pass, its kit, its rounds and why it ended.
 #[derive(Drop)]
-pub struct RoundsWorked<A> {
-    pub pass: BookPass,
+pub struct RoundsWorked<K, A> {
+    pub pass: BookPass<K>,
     pub kit: A,
     pub rounds: Vec<Round>,
     pub end: RoundsEnd,
@@ -53,6 +53,7 @@ pub struct RoundsWorked<A> {
 /// A kit whose worker makes a round at each tick, until it ends.
 pub trait RoundKit: Drop {
     ghost use Rattle.std.specs.Prelude.{List, Option};
+    ghost use Rattle.sat_book.specs.Book.{opening_of};
     ghost use Rattle.sat_book.specs.Legal.{E};
     ghost use Rattle.sat_book.specs.declared.opening.Opening.{Opening};
     ghost use Rattle.sat_rounds.specs.Rounds.{KitView, RoundsRan};
@@ -74,10 +75,10 @@ pub trait RoundKit: Drop {
         rt: &R,
         alloc: Global,
         desk: &Desk<Book<K>>,
-        pass: BookPass,
+        pass: BookPass<K>,
         gate: &G,
-    ) -> RoundsWorked<Self>
+    ) -> RoundsWorked<K, Self>
         requires desk { pass.desk ≡ desk.now }
         requires base { IsSome pass.base }
-        ensures { RoundsRan (tells pass.base) (view self) pass result.rounds.items result.end (view result.kit) result.pass };
+        ensures { RoundsRan (tells (opening_of pass.base)) (view self) pass result.rounds.items result.end (view result.kit) result.pass };
 }

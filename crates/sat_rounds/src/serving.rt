@@ -21,8 +21,8 @@ use std::sync::Wait;
 use turnstile::{Desk, Turned};
 
 /// What a session came to. `stops` tells that the machine stops or has stopped.
-pub(crate) struct Served {
-    pub pass: BookPass,
+pub(crate) struct Served<K> {
+    pub pass: BookPass<K>,
     pub end: SessionEnd,
     pub stops: bool,
 }
@@ -37,7 +37,7 @@ pub fn session<K: Keeper, N: Link, T: Clock, W: Words, G: Gate, R: Wait>(
     rt: &R,
     alloc: Global,
     desk: &Desk<Book<K>>,
-    pass: BookPass,
+    pass: BookPass<K>,
     keys: &Keys,
     link: &mut N,
     clock: &mut T,
@@ -45,7 +45,7 @@ pub fn session<K: Keeper, N: Link, T: Clock, W: Words, G: Gate, R: Wait>(
     gate: &G,
     lane: u16,
     number: u64,
-) -> (BookPass, Session)
+) -> (BookPass<K>, Session)
     requires desk { pass.desk ≡ desk.now }
     requires base { IsSome pass.base }
     ensures serves { Serves keys.now pass (record {
@@ -56,7 +56,7 @@ pub fn session<K: Keeper, N: Link, T: Clock, W: Words, G: Gate, R: Wait>(
       faults = W.faults words.old;
       faults_after = W.faults words.new;
     }) (N.about link.old) (N.about link.new) result.1.end result.0 }
-    ensures good { IfSome pass.base (λ opening. IsGood keys.now (start_of opening) (record {
+    ensures good { IfSome pass.base (λ origin. IsGood keys.now (start_of origin.opening) (record {
       coming = T.coming clock.old;
       coming_after = T.coming clock.new;
       words = W.left words.old;
@@ -64,7 +64,7 @@ pub fn session<K: Keeper, N: Link, T: Clock, W: Words, G: Gate, R: Wait>(
       faults = W.faults words.old;
       faults_after = W.faults words.new;
     }) (N.about link.old) (N.about link.new) result.0.seen result.1.end
-        → IsAnswered keys.now (start_of opening) (N.about link.old) (N.about link.new) result.0.seen result.1.end) }
+        → IsAnswered keys.now (start_of origin.opening) (N.about link.old) (N.about link.new) result.0.seen result.1.end) }
     ensures number { result.1.number ≡ number }
 {
     good_requests_are_answered();
@@ -82,14 +82,14 @@ pub(crate) fn serve<K: Keeper, N: Link, T: Clock, W: Words, G: Gate, R: Wait>(
     rt: &R,
     alloc: Global,
     desk: &Desk<Book<K>>,
-    pass: BookPass,
+    pass: BookPass<K>,
     keys: &Keys,
     link: &mut N,
     clock: &mut T,
     words: &mut W,
     gate: &G,
     lane: u16,
-) -> Served
+) -> Served<K>
     requires desk { pass.desk ≡ desk.now }
     requires base { IsSome pass.base }
     ensures serves { Serves keys.now pass (record {
@@ -114,11 +114,11 @@ fn answer_to<K: Keeper, N: Link, R: Wait>(
     rt: &R,
     alloc: Global,
     desk: &Desk<Book<K>>,
-    pass: BookPass,
+    pass: BookPass<K>,
     keys: &Keys,
     link: &mut N,
     heard: Listened,
-) -> Served
+) -> Served<K>
     requires desk { pass.desk ≡ desk.now }
     requires base { IsSome pass.base }
     requires formed { IfCall heard IsFormed }
@@ -139,7 +139,7 @@ fn answer_to<K: Keeper, N: Link, R: Wait>(
 }
 
 // A session that entered nothing.
-fn without_turn(pass: BookPass, end: SessionEnd) -> Served
+fn without_turn<K>(pass: BookPass<K>, end: SessionEnd) -> Served<K>
     ensures { (result.pass ≡ pass) × (result.end ≡ end) × (result.stops ≡ false) }
 {
     Served {
@@ -154,11 +154,11 @@ fn answer_call<K: Keeper, N: Link, R: Wait>(
     rt: &R,
     alloc: Global,
     desk: &Desk<Book<K>>,
-    pass: BookPass,
+    pass: BookPass<K>,
     keys: &Keys,
     link: &mut N,
     call: Call,
-) -> Served
+) -> Served<K>
     requires desk { pass.desk ≡ desk.now }
     requires base { IsSome pass.base }
     requires formed { IsFormed call }

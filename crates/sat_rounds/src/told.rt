@@ -1,11 +1,11 @@
 // What a session tells.
 use http_edge::EdgeErr;
 use machine_calls::{Call, Reply};
-use sat_book::Opening;
+use sat_book::Origin;
 use turnstile::Pass;
 
-/// A pass at a desk of books. It doesn't name their keeper.
-pub type BookPass = Pass<Call, Reply, Option<Opening>>;
+/// A pass at a desk of a book over a `K`.
+pub type BookPass<K> = Pass<Call, Reply, Option<Origin<K>>>;
 
 /// How a session ended. `sent` tells whether all of its answer was written; where it wasn't, a put failed.
 #[derive(Clone, Copy, Debug, PartialEq, Eq)]

@@ -14,10 +14,10 @@ use Rattle.sat_term.proofs.Holding.{lane_holds, lane_kept, lanes_kept, round_hol
 use Rattle.sat_term.proofs.Rows.{every_snoc, rows_more}
 
 -- a pass that was given away has one number
-given_numbers : (v o0 : V) (n : ℕ) → o0 ≡ given_half v → n ≡ o0.number → o0.numbers ≡ n ∷ []
-given_numbers v o0 n is_o is_n = ap (λ (k : V). k.numbers) is_o ∙ ap (λ (m : ℕ). m ∷ []) (sym (is_n ∙ ap (λ (k : V). k.number) is_o))
+given_numbers : {K : Type 0} (v o0 : V K) (n : ℕ) → o0 ≡ given_half v → n ≡ o0.number → o0.numbers ≡ n ∷ []
+given_numbers {K} v o0 n is_o is_n = ap (λ (k : V K). k.numbers) is_o ∙ ap (λ (m : ℕ). m ∷ []) (sym (is_n ∙ ap (λ (k : V K). k.number) is_o))
 
-pub done_none : (secret : List ℕ) (term : ℕ) (v : V) (befores afters : List PostView) (sheet : Sheet) → befores ≡ [] → afters ≡ [] → sheet.numbers.items ≡ [] → sheet.lanes.items ≡ [] → sheet.ends.items ≡ [] → LanesDone secret term v befores v afters sheet
+pub done_none : {K : Type 0} (secret : List ℕ) (term : ℕ) (v : V K) (befores afters : List PostView) (sheet : Sheet) → befores ≡ [] → afters ≡ [] → sheet.numbers.items ≡ [] → sheet.lanes.items ≡ [] → sheet.ends.items ≡ [] → LanesDone secret term v befores v afters sheet
 done_none secret term v befores afters sheet b f n l e = record {
   gathered = subst (λ (ns : List ℕ). Gathered v ns v) (sym n) (gathered_none v);
   rows = [];
@@ -26,7 +26,7 @@ done_none secret term v befores afters sheet b f n l e = record {
 }
 
 -- one lane more
-pub done_more : (secret : List ℕ) (term : ℕ) (v l o0 r o u : V) (bs bs' fs fs' : List PostView) (sheet sheet' : Sheet) (s s' : PostView) (xs : List Session) (end : LaneEnd) (n : ℕ)
+pub done_more : {K : Type 0} (secret : List ℕ) (term : ℕ) (v l o0 r o u : V K) (bs bs' fs fs' : List PostView) (sheet sheet' : Sheet) (s s' : PostView) (xs : List Session) (end : LaneEnd) (n : ℕ)
     → l ≡ kept_half v → o0 ≡ given_half v → own_entries o0 ≡ [] → n ≡ o0.number → 2 ≤ v.spare → LanesDone secret term l bs r fs sheet → LaneRan secret term s o0 xs end s' o → Joined r o u
     → sheet'.numbers.items ≡ sheet.numbers.items ++ n ∷ [] → bs' ≡ bs ++ s ∷ [] → lanes_of sheet' ≡ lanes_of sheet ++ xs ∷ [] → sheet'.ends.items ≡ sheet.ends.items ++ end ∷ [] → fs' ≡ fs ++ s' ∷ []
     → LanesDone secret term v bs' u fs' sheet'
@@ -42,7 +42,7 @@ done_more secret term v l o0 r o u bs bs' fs fs' sheet sheet' s s' xs end n is_l
 
 module _ {N M O : Type 0} (AuditTells : Telling N) (RepairTells : Telling M) (TallyTells : Telling O) where
   -- all three workers of rounds are joined to the lanes
-  pub all_done : (secret : List ℕ) (term : ℕ) (v0 v1 v2 v3 t0 r0 a0 r u1 u2 u3 a1 r1 t1 : V) (bs fs : List PostView) (kits kits' : KitsView N M O) (sheet sheet' : Sheet) (left : RoundsLeft) (an rn tn : ℕ)
+  pub all_done : {K : Type 0} (secret : List ℕ) (term : ℕ) (v0 v1 v2 v3 t0 r0 a0 r u1 u2 u3 a1 r1 t1 : V K) (bs fs : List PostView) (kits kits' : KitsView N M O) (sheet sheet' : Sheet) (left : RoundsLeft) (an rn tn : ℕ)
       → 8 ≤ v0.spare → v1 ≡ kept_half v0 → t0 ≡ given_half v0 → own_entries t0 ≡ [] → v2 ≡ kept_half v1 → r0 ≡ given_half v1 → own_entries r0 ≡ [] → v3 ≡ kept_half v2 → a0 ≡ given_half v2 → own_entries a0 ≡ []
       → an ≡ a0.number → rn ≡ r0.number → tn ≡ t0.number
       → LanesDone secret term v3 bs r fs sheet
@@ -50,9 +50,9 @@ module _ {N M O : Type 0} (AuditTells : Telling N) (RepairTells : Telling M) (Ta
       → Joined r a1 u1 → Joined u1 r1 u2 → Joined u2 t1 u3
       → sheet'.numbers.items ≡ sheet.numbers.items ++ an ∷ rn ∷ tn ∷ [] → sheet'.lanes ≡ sheet.lanes → sheet'.ends ≡ sheet.ends
       → AllDone AuditTells RepairTells TallyTells secret term v0 bs kits u3 fs kits' sheet' left
-  all_done secret term v0 v1 v2 v3 t0 r0 a0 r u1 u2 u3 a1 r1 t1 bs fs kits kits' sheet sheet' left an rn tn wide is1 ist idlet is2 isr idler is3 isa idlea ea er et done ran_a ran_r ran_t j1 j2 j3 nums lanes ends =
-      let s1 : v1.spare ≡ v0.spare - v0.spare / 2 = ap (λ (k : V). k.spare) is1 in
-      let s2 : v2.spare ≡ v1.spare - v1.spare / 2 = ap (λ (k : V). k.spare) is2 in
+  all_done {K} secret term v0 v1 v2 v3 t0 r0 a0 r u1 u2 u3 a1 r1 t1 bs fs kits kits' sheet sheet' left an rn tn wide is1 ist idlet is2 isr idler is3 isa idlea ea er et done ran_a ran_r ran_t j1 j2 j3 nums lanes ends =
+      let s1 : v1.spare ≡ v0.spare - v0.spare / 2 = ap (λ (k : V K). k.spare) is1 in
+      let s2 : v2.spare ≡ v1.spare - v1.spare / 2 = ap (λ (k : V K). k.spare) is2 in
       let wide1 : 4 ≤ v1.spare = omega arith in
       let wide2 : 2 ≤ v2.spare = omega arith in
       let wide0 : 2 ≤ v0.spare = omega arith in

@@ -1,19 +1,19 @@
 -- What the sessions of one lane come to in the whole history.
 use Rattle.std.proofs.Common.{◌≡◌, ℕ, ◌+◌, ◌-◌, ◌^◌, ◌<◌, ◌≤◌, List, [], ◌∷◌, ◌++◌, length, Bool, true, false, cond, Some, None, Option, refl, sym, ap, ◌∙◌, subst, arith, append_assoc, append-nil}
 use Rattle.sat_base.specs.Lane.{Links, LaneView, with_came, with_done}
-use Rattle.sat_base.specs.Outside.{About, CountsExactly, Rose, raised, with_front}
+use Rattle.sat_base.specs.Outside.{About, CountsExactly, Rose, counted, raised, with_front}
 use Rattle.turnstile.specs.History.{own}
-use Rattle.desk_runs.specs.Runs.{Acts}
+use Rattle.desk_runs.specs.Runs.{Acts, some_is}
 use Rattle.sat_book.specs.Legal.{E}
 use Rattle.sat_rounds.specs.Draws.{Draws, Gives}
-use Rattle.sat_rounds.specs.Lanes.{PostView, AreNumbered, Closes, LaneTells, session_places, told_of}
+use Rattle.sat_rounds.specs.Lanes.{PostView, AreNumbered, Closes, LaneTells, is_term_full, session_full, session_places, told_of}
 use Rattle.sat_rounds.specs.Sessions.{V, is_words_fault}
 use Rattle.sat_rounds.specs.declared.lanes.LaneEnd.{LaneEnd}
 use Rattle.sat_rounds.specs.declared.lanes.LaneEnd.TheVariants as causes
 use Rattle.sat_rounds.specs.declared.told.Session.{Session}
 use Rattle.sat_rounds.proofs.Ending.{words_counted}
 use Rattle.sat_term.specs.Crew.{LaneHolds, LaneRow}
-use Rattle.sat_term.specs.Term.{LaneCause, LaneClauses, LinksGrew, count_of, ends_by_words}
+use Rattle.sat_term.specs.Term.{LaneCause, LaneClauses, LinksGrew, count_of, ends_by_words, is_failed}
 use Rattle.sat_term.proofs.Among.{draws_nothing, draws_then}
 
 pub one_more : (a b c n : ℕ) → b ≡ raised a → (c < 2 ^ 64 - 1 → c ≡ b + n) → c < 2 ^ 64 - 1 → c ≡ a + (n + 1)
@@ -111,8 +111,16 @@ module _ (secret : List ℕ) (term : ℕ) (h : List E) where
   cause_of causes.Many xs s0 s s' f c = c.1
   cause_of causes.NoMemory xs s0 s s' f c = tt
 
-  pub lane_clauses_at : (row : LaneRow) (made : List E) (m : PostView) → Did row.before row.sessions made m → Closes row.end row.sessions h m row.after → made ≡ own (row.number ∷ []) h → AreNumbered row.sessions → LaneClauses secret term h row
-  lane_clauses_at row made m a closes is numbered =
+  failed_of : (end : LaneEnd) (xs : List Session) (s0 s s' : PostView) → s.lane.faults ≡ s0.lane.faults → Closes end xs h s s' → s'.lane.faults ≡ counted (is_failed end) s0.lane.faults
+  failed_of causes.Over xs s0 s s' f c = ap (λ (z : PostView). z.lane.faults) c ∙ f
+  failed_of causes.Failed xs s0 s s' f c = ap (λ (z : PostView). z.lane.faults) c ∙ ap raised f
+  failed_of causes.Stopped xs s0 s s' f c = ap (λ (z : PostView). z.lane.faults) c.0 ∙ f
+  failed_of causes.TermFull xs s0 s s' f c = ap (λ (z : PostView). z.lane.faults) c.0 ∙ f
+  failed_of causes.Many xs s0 s s' f c = ap (λ (z : PostView). z.lane.faults) c.0 ∙ f
+  failed_of causes.NoMemory xs s0 s s' f c = ap (λ (z : PostView). z.lane.faults) c ∙ f
+
+  pub lane_clauses_at : (row : LaneRow) (made : List E) (m : PostView) → Did row.before row.sessions made m → Closes row.end row.sessions h m row.after → made ≡ own (row.number ∷ []) h → AreNumbered row.sessions → some_is session_full row.sessions ≡ is_term_full row.end → LaneClauses secret term h row
+  lane_clauses_at row made m a closes is numbered met =
       let same = closes_same row.end row.sessions m row.after closes in
       let d : Draws (told_of row.before m) (own (row.number ∷ []) h) = subst (λ (l : List E). Draws (told_of row.before m) l) is (did_draw row.before row.sessions made m a) in
       let f = did_faults row.before row.sessions made m a in
@@ -120,6 +128,8 @@ module _ (secret : List ℕ) (term : ℕ) (h : List E) where
         given = λ low. (let e = same.given in let r = did_given row.before row.sessions made m a (omega arith) in omega arith);
         numbered = numbered;
         cause = cause_of row.end row.sessions row.before m row.after (did_wait row.before row.sessions made m a) closes;
+        met = met;
+        failed = failed_of row.end row.sessions row.before m row.after (did_wait row.before row.sessions made m a) closes;
         links = subst (λ (o : Option Links). LinksGrew secret term h row.sessions row.before.lane.links o) (sym same.links) (did_links row.before.lane.links row.sessions row.before made m refl a);
         gave = d.gave;
         gives = subst (λ (o : Option (List ℕ)). Gives row.before.coming d.gave o) (sym same.coming) d.gives;
@@ -130,5 +140,5 @@ module _ (secret : List ℕ) (term : ℕ) (h : List E) where
         words_faults = λ low. (let e = same.words_faults in let r = f.1 (omega arith) in omega arith);
       }
 
-pub lane_clauses : (secret : List ℕ) (term : ℕ) (history : List E) (u : V) (row : LaneRow) → LaneHolds secret term u row → u.seen ≡ history → LaneClauses secret term history row
-lane_clauses secret term history u row x is = subst (λ (l : List E). LaneClauses secret term l row) is (lane_clauses_at secret term u.seen row (own (row.number ∷ []) u.seen) x.before_last x.done.acts x.closes refl x.numbered)
+pub lane_clauses : {K : Type 0} (secret : List ℕ) (term : ℕ) (history : List E) (u : V K) (row : LaneRow) → LaneHolds secret term u row → u.seen ≡ history → LaneClauses secret term history row
+lane_clauses secret term history u row x is = subst (λ (l : List E). LaneClauses secret term l row) is (lane_clauses_at secret term u.seen row (own (row.number ∷ []) u.seen) x.before_last x.done.acts x.closes refl x.numbered x.met)

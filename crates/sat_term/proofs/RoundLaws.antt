@@ -3,10 +3,10 @@ use Rattle.std.proofs.Common.{◌≡◌, ℕ, ◌+◌, ◌-◌, ◌^◌, ◌<◌
 use Rattle.sat_base.specs.Outside.{with_front}
 use Rattle.sat_base.specs.Ticks.{TicksView}
 use Rattle.turnstile.specs.History.{own}
-use Rattle.desk_runs.specs.Runs.{Acts}
+use Rattle.desk_runs.specs.Runs.{Acts, some_is}
 use Rattle.sat_book.specs.Legal.{E}
 use Rattle.sat_rounds.specs.Draws.{Draws, Gives}
-use Rattle.sat_rounds.specs.Rounds.{KitView, RoundTells, RoundsClose, round_places, told_of_kit}
+use Rattle.sat_rounds.specs.Rounds.{KitView, RoundTells, RoundsClose, is_by_round, round_ends, round_places, told_of_kit}
 use Rattle.sat_rounds.specs.Sessions.{V}
 use Rattle.sat_rounds.specs.declared.rounds.Round.{Round}
 use Rattle.sat_rounds.specs.declared.rounds.RoundsEnd.{RoundsEnd}
@@ -52,14 +52,15 @@ module _ {N : Type 0} (Tells : Telling N) (h : List E) where
   closes_same causes.Round xs s s' c = (same_but s s' s.ticks refl c.0, c.1)
   closes_same causes.NoMemory xs s s' c = (same_but s s' s.ticks refl c, tt)
 
-  round_clauses_at : (row : KitRow N) (made : List E) (m : KitView N) → Did row.before row.rounds made m → RoundsClose row.end row.rounds m row.after → made ≡ own (row.number ∷ []) h → RoundClauses Tells h row
-  round_clauses_at row made m a closes is =
+  round_clauses_at : (row : KitRow N) (made : List E) (m : KitView N) → Did row.before row.rounds made m → RoundsClose row.end row.rounds m row.after → made ≡ own (row.number ∷ []) h → some_is round_ends row.rounds ≡ is_by_round row.end → RoundClauses Tells h row
+  round_clauses_at row made m a closes is met =
       let last = closes_same row.end row.rounds m row.after closes in
       let same = last.0 in
       let d : Draws (told_of_kit row.before m) (own (row.number ∷ []) h) = subst (λ (l : List E). Draws (told_of_kit row.before m) l) is (did_draw row.before row.rounds made m a) in
       record {
         given = λ low. (let e = same.given in let r = did_given row.before row.rounds made m a (omega arith) in omega arith);
         cause = last.1;
+        met = met;
         gave = d.gave;
         gives = subst (λ (o : Option (List ℕ)). Gives row.before.coming d.gave o) (sym same.coming) d.gives;
         moments = d.moments;
@@ -69,5 +70,5 @@ module _ {N : Type 0} (Tells : Telling N) (h : List E) where
         told = subst (λ (l : List E). AreTold Tells h row.before row.rounds l row.after) is (did_tell row.before row.rounds made m row.after a same.nodes);
       }
 
-pub round_clauses : {N : Type 0} (Tells : Telling N) (history : List E) (u : V) (row : KitRow N) → RoundHolds Tells u row → u.seen ≡ history → RoundClauses Tells history row
-round_clauses Tells history u row x is = subst (λ (l : List E). RoundClauses Tells l row) is (round_clauses_at Tells u.seen row (own (row.number ∷ []) u.seen) x.before_last x.done.acts x.closes refl)
+pub round_clauses : {K : Type 0} {N : Type 0} (Tells : Telling N) (history : List E) (u : V K) (row : KitRow N) → RoundHolds Tells u row → u.seen ≡ history → RoundClauses Tells history row
+round_clauses Tells history u row x is = subst (λ (l : List E). RoundClauses Tells l row) is (round_clauses_at Tells u.seen row (own (row.number ∷ []) u.seen) x.before_last x.done.acts x.closes refl x.met)

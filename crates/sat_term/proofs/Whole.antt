@@ -10,9 +10,12 @@ use Rattle.desk_runs.specs.Numbered.{Covers, places_of_number, times}
 use Rattle.desk_runs.specs.Runs.{some_is}
 use Rattle.desk_runs.proofs.Counting.{covers_rest, flat_again, once_each, rises_apart}
 use Rattle.desk_runs.proofs.Running.{acts_places}
-use Rattle.sat_book.specs.Book.{AreOf, start_of}
-use Rattle.sat_book.specs.Legal.{E, IsHistory, last_shown}
+use Rattle.machine_history.specs.Orders.{SettleOnce}
+use Rattle.sat_base.specs.Rows.{Rows}
+use Rattle.sat_book.specs.Book.{AreOf, Keeps, Spell, opening_of, start_of}
+use Rattle.sat_book.specs.Legal.{E, IsHistory, last_shown, said_of}
 use Rattle.sat_book.specs.declared.opening.Opening.{Opening}
+use Rattle.sat_book.specs.declared.opening.Origin.{Origin}
 use Rattle.sat_rounds.specs.Lanes.{PostView, LaneTells, session_places, session_full}
 use Rattle.sat_rounds.specs.Rounds.{RoundTells, round_places, round_full}
 use Rattle.sat_rounds.specs.Sessions.{V}
@@ -26,33 +29,33 @@ use Rattle.sat_term.specs.declared.crew.Term.{Term}
 use Rattle.sat_term.proofs.LaneLaws.{lane_clauses}
 use Rattle.sat_term.proofs.RoundLaws.{round_clauses}
 
-lanes_full : (secret : List ℕ) (term : ℕ) (u : V) (rows : List LaneRow) → Every (LaneHolds secret term u) rows → some_is (some_is session_full) (map (λ (r : LaneRow). r.sessions) rows) ≡ true → Marked u
+lanes_full : {K : Type 0} (secret : List ℕ) (term : ℕ) (u : V K) (rows : List LaneRow) → Every (LaneHolds secret term u) rows → some_is (some_is session_full) (map (λ (r : LaneRow). r.sessions) rows) ≡ true → Marked u
 lanes_full secret term u [] e h = absurd (cc)
 lanes_full secret term u (r ∷ rows) e h = elim (either_of (some_is session_full r.sessions) (some_is (some_is session_full) (map (λ (x : LaneRow). x.sessions) rows)) h) [
   | inl q ↦ e.0.done.full q
   | inr q ↦ lanes_full secret term u rows e.1 q
 ]
 
-lanes_told : (secret : List ℕ) (term : ℕ) (u : V) (rows : List LaneRow) → Every (LaneHolds secret term u) rows → map (places_of_number u.seen) (map (λ (r : LaneRow). r.number) rows) ≡ map (flat_map session_places) (map (λ (r : LaneRow). r.sessions) rows)
+lanes_told : {K : Type 0} (secret : List ℕ) (term : ℕ) (u : V K) (rows : List LaneRow) → Every (LaneHolds secret term u) rows → map (places_of_number u.seen) (map (λ (r : LaneRow). r.number) rows) ≡ map (flat_map session_places) (map (λ (r : LaneRow). r.sessions) rows)
 lanes_told secret term u [] e = refl
 lanes_told secret term u (r ∷ rows) e = λ i. acts_places session_places (LaneTells secret term) u.seen r.before r.sessions (own (r.number ∷ []) u.seen) e.0.before_last e.0.done.acts i ∷ lanes_told secret term u rows e.1 i
 
-round_told : {N : Type 0} (Tells : Telling N) (u : V) (row : KitRow N) → RoundHolds Tells u row → places_of_number u.seen row.number ≡ flat_map round_places row.rounds
+round_told : {K : Type 0} {N : Type 0} (Tells : Telling N) (u : V K) (row : KitRow N) → RoundHolds Tells u row → places_of_number u.seen row.number ≡ flat_map round_places row.rounds
 round_told Tells u row x = acts_places round_places (RoundTells Tells) u.seen row.before row.rounds (own (row.number ∷ []) u.seen) x.before_last x.done.acts
 
-every_clause : (secret : List ℕ) (term : ℕ) (history : List E) (u : V) (rows : List LaneRow) → Every (LaneHolds secret term u) rows → u.seen ≡ history → Every (LaneClauses secret term history) rows
+every_clause : {K : Type 0} (secret : List ℕ) (term : ℕ) (history : List E) (u : V K) (rows : List LaneRow) → Every (LaneHolds secret term u) rows → u.seen ≡ history → Every (LaneClauses secret term history) rows
 every_clause secret term history u [] e is = tt
 every_clause secret term history u (r ∷ rows) e is = (lane_clauses secret term history u r e.0 is, every_clause secret term history u rows e.1 is)
 
 module _ {N M O : Type 0} (AuditTells : Telling N) (RepairTells : Telling M) (TallyTells : Telling O) where
   -- the workers' numbers, and what they name, once the desk is closed
-  whole_term : (secret : List ℕ) (term : ℕ) (desk : DeskId) (opening : Opening) (u : V) (bs fs : List PostView) (kits kits' : KitsView N M O) (sheet : Sheet) (left : RoundsLeft)
-      → desk.term ≡ term → AllDone AuditTells RepairTells TallyTells secret term (first_pass desk (Some opening)) bs kits u fs kits' sheet left → AreOf u.base u.seen → own_entries u ≡ u.seen → ((m : ℕ) → u.mark ≡ Some m → length u.seen ≡ u.desk.term)
+  whole_term : {K : Type 0} (secret : List ℕ) (term : ℕ) (desk : DeskId) (origin : Origin K) (u : V K) (bs fs : List PostView) (kits kits' : KitsView N M O) (sheet : Sheet) (left : RoundsLeft)
+      → desk.term ≡ term → AllDone AuditTells RepairTells TallyTells secret term (first_pass desk (Some origin)) bs kits u fs kits' sheet left → AreOf u.base u.seen → own_entries u ≡ u.seen → ((m : ℕ) → u.mark ≡ Some m → length u.seen ≡ u.desk.term)
       → (places : List (List ℕ)) → places ≡ map (flat_map session_places) (lanes_of sheet) ++ flat_map round_places left.audits ∷ flat_map round_places left.repairs ∷ flat_map round_places left.tallies ∷ []
       → (full : Bool) → full ≡ some_is (some_is session_full) (lanes_of sheet) || (some_is round_full left.audits || (some_is round_full left.repairs || some_is round_full left.tallies))
-      → WholeTerm term opening u.seen sheet.numbers.items places full
-  whole_term secret term desk opening u bs fs kits kits' sheet left same_term a legal0 all_own full0 places places_are full full_are =
-      let legal : IsHistory (start_of opening) opening.faults u.seen = subst (λ (b : Option Opening). AreOf b u.seen) a.gathered.base_is legal0 in
+      → WholeTerm term origin.opening u.seen sheet.numbers.items places full
+  whole_term {K} secret term desk origin u bs fs kits kits' sheet left same_term a legal0 all_own full0 places places_are full full_are =
+      let legal : IsHistory (start_of origin.opening) origin.opening.faults u.seen = subst (λ (b : Option (Origin K)). AreOf b u.seen) a.gathered.base_is legal0 in
       let filled : (m : ℕ) → u.mark ≡ Some m → length u.seen ≡ term = λ m q. full0 m q ∙ (ap (λ (d : DeskId). d.term) a.gathered.desk_is ∙ same_term) in
       let ns : List ℕ = sheet.numbers.items in
       let mine : own (0 ∷ ns) u.seen ≡ u.seen = ap (λ (l : List ℕ). own l u.seen) (sym a.gathered.numbers_are) ∙ all_own in
@@ -78,26 +81,26 @@ module _ {N M O : Type 0} (AuditTells : Telling N) (RepairTells : Telling M) (Ta
       λ p. ap (λ (l : List (List ℕ)). times p (flat_map (λ (ps : List ℕ). ps) l)) (sym told') ∙ (ap (times p) (flat_again f ns) ∙ once_each ns u.seen p legal.places apart covered) in
       record { legal = legal; apart = apart; covered = covered; told = told'; once = once; full_is = λ h. (let m = marked h in filled m.0 m.1) }
 
-  pub whole : (secret : List ℕ) (term : ℕ) (desk : DeskId) (opening : Opening) (v u : V) (bs fs : List PostView) (kits kits' : KitsView N M O) (sheet : Sheet) (left : RoundsLeft) (t : Term) (ends : Ends)
-      → desk.term ≡ term → v ≡ first_pass desk (Some opening) → AllDone AuditTells RepairTells TallyTells secret desk.term v bs kits u fs kits' sheet left
-      → t.opening.items ≡ opening.rows → t.history.items ≡ u.seen → t.passes ≡ sheet.numbers → t.lanes ≡ sheet.lanes → ends.lanes ≡ sheet.ends
+  pub whole : {K : Type 0} (secret : List ℕ) (term : ℕ) (desk : DeskId) (origin : Origin K) (v u : V K) (bs fs : List PostView) (kits kits' : KitsView N M O) (sheet : Sheet) (left : RoundsLeft) (t : Term) (ends : Ends)
+      → desk.term ≡ term → v ≡ first_pass desk (Some origin) → AllDone AuditTells RepairTells TallyTells secret desk.term v bs kits u fs kits' sheet left
+      → t.opening.items ≡ origin.opening.rows → t.history.items ≡ u.seen → t.passes ≡ sheet.numbers → t.lanes ≡ sheet.lanes → ends.lanes ≡ sheet.ends
       → left ≡ record { audits = t.audits.items; repairs = t.repairs.items; tallies = t.tallies.items; audit_end = ends.audit; repair_end = ends.repair; tally_end = ends.tally }
       → AreOf u.base u.seen → own_entries u ≡ u.seen → ((m : ℕ) → u.mark ≡ Some m → length u.seen ≡ u.desk.term)
-      → TermClauses AuditTells RepairTells TallyTells secret term opening t ends bs fs kits kits'
-  whole secret term desk opening v u bs fs kits kits' sheet left t ends same_term first a0 rows hist nums lanes lane_ends left_is legal all_own full0 =
+      → TermClauses AuditTells RepairTells TallyTells secret term origin.opening t ends bs fs kits kits'
+  whole {K} secret term desk origin v u bs fs kits kits' sheet left t ends same_term first a0 rows hist nums lanes lane_ends left_is legal all_own full0 =
       let now : RoundsLeft = record { audits = t.audits.items; repairs = t.repairs.items; tallies = t.tallies.items; audit_end = ends.audit; repair_end = ends.repair; tally_end = ends.tally } in
-      let a : AllDone AuditTells RepairTells TallyTells secret term (first_pass desk (Some opening)) bs kits u fs kits' sheet now =
-      subst (λ (z : ℕ × V × RoundsLeft). AllDone AuditTells RepairTells TallyTells secret z.0 z.1 bs kits u fs kits' sheet z.2) (λ i. (same_term i, first i, left_is i)) a0 in
+      let a : AllDone AuditTells RepairTells TallyTells secret term (first_pass desk (Some origin)) bs kits u fs kits' sheet now =
+      subst (λ (z : ℕ × V K × RoundsLeft). AllDone AuditTells RepairTells TallyTells secret z.0 z.1 bs kits u fs kits' sheet z.2) (λ i. (same_term i, first i, left_is i)) a0 in
       let passes : t.passes.items ≡ sheet.numbers.items = ap (λ v. v.items) nums in
       let sess : sessions_of t ≡ lanes_of sheet = ap (map (λ v. v.items)) (ap (λ v. v.items) lanes) in
       let there : u.seen ≡ t.history.items = sym hist in
-      let base : WholeTerm term opening u.seen sheet.numbers.items (all_places t) (met_full t) =
-      whole_term secret term desk opening u bs fs kits kits' sheet now same_term a legal all_own full0
+      let base : WholeTerm term origin.opening u.seen sheet.numbers.items (all_places t) (met_full t) =
+      whole_term secret term desk origin u bs fs kits kits' sheet now same_term a legal all_own full0
       (all_places t) (ap (λ (l : List (List Session)). map (flat_map session_places) l ++ flat_map round_places t.audits.items ∷ flat_map round_places t.repairs.items ∷ flat_map round_places t.tallies.items ∷ []) sess)
       (met_full t) (ap (λ (l : List (List Session)). some_is (some_is session_full) l || (some_is round_full t.audits.items || (some_is round_full t.repairs.items || some_is round_full t.tallies.items))) sess) in
       record {
         rows_are = rows;
-        whole = subst (λ (z : List E × List ℕ). WholeTerm term opening z.0 z.1 (all_places t) (met_full t)) (λ i. (there i, sym passes i)) base;
+        whole = subst (λ (z : List E × List ℕ). WholeTerm term origin.opening z.0 z.1 (all_places t) (met_full t)) (λ i. (there i, sym passes i)) base;
         lane_numbers = a.lane_numbers;
         audit_number = a.audit_number;
         repair_number = a.repair_number;
@@ -113,21 +116,33 @@ module _ {N M O : Type 0} (AuditTells : Telling N) (RepairTells : Telling M) (Ta
 
 -- the same where what is told is told from the opening that the first pass has
 module _ {N M O : Type 0} (audit_tells : Option Opening → Telling N) (repair_tells : Option Opening → Telling M) (tally_tells : Option Opening → Telling O) where
-  pub whole_from : (secret : List ℕ) (term : ℕ) (desk : DeskId) (opening : Opening) (v u : V) (bs fs : List PostView) (kits kits' : KitsView N M O) (sheet : Sheet) (left : RoundsLeft) (t : Term) (ends : Ends)
-      → desk.term ≡ term → v ≡ first_pass desk (Some opening) → AllDone (audit_tells v.base) (repair_tells v.base) (tally_tells v.base) secret desk.term v bs kits u fs kits' sheet left
-      → t.opening.items ≡ opening.rows → t.history.items ≡ u.seen → t.passes ≡ sheet.numbers → t.lanes ≡ sheet.lanes → ends.lanes ≡ sheet.ends
+  pub whole_from : {K : Type 0} (secret : List ℕ) (term : ℕ) (desk : DeskId) (origin : Origin K) (v u : V K) (bs fs : List PostView) (kits kits' : KitsView N M O) (sheet : Sheet) (left : RoundsLeft) (t : Term) (ends : Ends)
+      → desk.term ≡ term → v ≡ first_pass desk (Some origin) → AllDone (audit_tells (opening_of v.base)) (repair_tells (opening_of v.base)) (tally_tells (opening_of v.base)) secret desk.term v bs kits u fs kits' sheet left
+      → t.opening.items ≡ origin.opening.rows → t.history.items ≡ u.seen → t.passes ≡ sheet.numbers → t.lanes ≡ sheet.lanes → ends.lanes ≡ sheet.ends
       → left ≡ record { audits = t.audits.items; repairs = t.repairs.items; tallies = t.tallies.items; audit_end = ends.audit; repair_end = ends.repair; tally_end = ends.tally }
       → AreOf u.base u.seen → own_entries u ≡ u.seen → ((m : ℕ) → u.mark ≡ Some m → length u.seen ≡ u.desk.term)
-      → TermClauses (audit_tells (Some opening)) (repair_tells (Some opening)) (tally_tells (Some opening)) secret term opening t ends bs fs kits kits'
-  whole_from secret term desk opening v u bs fs kits kits' sheet left t ends same_term first a0 =
-      whole (audit_tells (Some opening)) (repair_tells (Some opening)) (tally_tells (Some opening)) secret term desk opening v u bs fs kits kits' sheet left t ends same_term first
-      (subst (λ (b : Option Opening). AllDone (audit_tells b) (repair_tells b) (tally_tells b) secret desk.term v bs kits u fs kits' sheet left) (ap (λ (k : V). k.base) first) a0)
+      → TermClauses (audit_tells (Some origin.opening)) (repair_tells (Some origin.opening)) (tally_tells (Some origin.opening)) secret term origin.opening t ends bs fs kits kits'
+  whole_from {K} secret term desk origin v u bs fs kits kits' sheet left t ends same_term first a0 =
+      whole (audit_tells (Some origin.opening)) (repair_tells (Some origin.opening)) (tally_tells (Some origin.opening)) secret term desk origin v u bs fs kits kits' sheet left t ends same_term first
+      (subst (λ (b : Option Opening). AllDone (audit_tells b) (repair_tells b) (tally_tells b) secret desk.term v bs kits u fs kits' sheet left) (ap (λ (k : V K). opening_of k.base) first) a0)
 
--- the closed book has the opening that the desk began with
-pub opening_same : (desk : DeskId) (opening opening' : Opening) (v u : V) → Some opening' ≡ u.base → u.base ≡ v.base → v ≡ first_pass desk (Some opening) → opening' ≡ opening
-opening_same desk opening opening' v u closed same first =
-    let is : Some opening' ≡ Some opening = closed ∙ (same ∙ ap (λ (k : V). k.base) first) in
+-- the closed book has the origin of the one that the desk began with
+pub origin_same : {K : Type 0} (desk : DeskId) (origin origin' : Origin K) (v u : V K) → Some origin' ≡ u.base → u.base ≡ v.base → v ≡ first_pass desk (Some origin) → origin' ≡ origin
+origin_same {K} desk origin origin' v u closed same first =
+    let is : Some origin' ≡ Some origin = closed ∙ (same ∙ ap (λ (k : V K). k.base) first) in
     cc
 
 pub shown_same : (opening opening' : Opening) (history history' : List E) (n : ℕ) → opening' ≡ opening → history' ≡ history → last_shown opening'.faults history' ≤ n → last_shown opening.faults history ≤ n
 shown_same opening opening' history history' n p q = subst (λ (z : Opening × List E). last_shown z.0.faults z.1 ≤ n) (λ i. (p i, q i))
+
+pub spell_same : (opening opening' : Opening) → opening' ≡ opening → Spell opening' → Spell opening
+spell_same opening opening' p = subst (λ (o : Opening). Spell o) p
+
+pub once_same : (opening opening' : Opening) (history history' : List E) → opening' ≡ opening → history' ≡ history → SettleOnce (start_of opening') (map said_of history') → SettleOnce (start_of opening) (map said_of history)
+once_same opening opening' history history' p q = subst (λ (z : Opening × List E). SettleOnce (start_of z.0) (map said_of z.1)) (λ i. (p i, q i))
+
+module _ {K : Type 0} (is_clean is_open tells : K → Type 0) (rows_at : K → Rows) (leaves : K → Rows → Type 0) where
+  pub keeps_same : (origin origin' : Origin K) (history history' : List E) (keeper : K) → origin' ≡ origin → history' ≡ history
+      → Keeps is_clean is_open tells rows_at leaves origin'.first origin'.opened keeper (start_of origin'.opening) history'
+      → Keeps is_clean is_open tells rows_at leaves origin.first origin.opened keeper (start_of origin.opening) history
+  keeps_same origin origin' history history' keeper p q = subst (λ (z : Origin K × List E). Keeps is_clean is_open tells rows_at leaves z.0.first z.0.opened keeper (start_of z.0.opening) z.1) (λ i. (p i, q i))

@@ -2,10 +2,10 @@
 use Rattle.std.specs.Prelude.{◌≡◌, ℕ, ◌≤◌, List, [], ◌∷◌, ◌++◌, map, vec_len, vec_capacity}
 use Rattle.turnstile.specs.Known.{kept_half, given_half, own_entries}
 use Rattle.desk_runs.specs.Gathered.{Gathered}
-use Rattle.desk_runs.specs.Runs.{HasDone}
+use Rattle.desk_runs.specs.Runs.{HasDone, some_is}
 use Rattle.sat_book.specs.Legal.{E}
-use Rattle.sat_rounds.specs.Lanes.{PostView, LaneTells, Closes, AreNumbered, session_places, session_full}
-use Rattle.sat_rounds.specs.Rounds.{KitView, RoundTells, RoundsClose, round_places, round_full}
+use Rattle.sat_rounds.specs.Lanes.{PostView, LaneTells, Closes, AreNumbered, is_term_full, session_places, session_full}
+use Rattle.sat_rounds.specs.Rounds.{KitView, RoundTells, RoundsClose, is_by_round, round_ends, round_places, round_full}
 use Rattle.sat_rounds.specs.Sessions.{V}
 use Rattle.sat_rounds.specs.declared.lanes.LaneEnd.{LaneEnd}
 use Rattle.sat_rounds.specs.declared.rounds.Round.{Round}
@@ -35,11 +35,12 @@ pub record LaneRow : Type 0 where
   pub after : PostView
 
 -- what holds of a lane's worker in the history that a pass has seen
-pub record LaneHolds (secret : List ℕ) (term : ℕ) (u : V) (row : LaneRow) : Type 0 where
+pub record LaneHolds {K : Type 0} (secret : List ℕ) (term : ℕ) (u : V K) (row : LaneRow) : Type 0 where
   pub before_last : PostView
   pub done : HasDone session_places session_full (LaneTells secret term) u row.number row.before row.sessions before_last
   pub closes : Closes row.end row.sessions u.seen before_last row.after
   pub numbered : AreNumbered row.sessions
+  pub met : some_is session_full row.sessions ≡ is_term_full row.end
 
 -- the rows are those of these lists
 pub record AreRows (rows : List LaneRow) (numbers : List ℕ) (befores : List PostView) (lanes : List (List Session)) (ends : List LaneEnd) (afters : List PostView) : Type 0 where
@@ -52,7 +53,7 @@ pub record AreRows (rows : List LaneRow) (numbers : List ℕ) (befores : List Po
 abbrev pub lanes_of : Sheet → List (List Session)
 lanes_of s = map (λ v. v.items) s.lanes.items
 
-pub record LanesDone (secret : List ℕ) (term : ℕ) (v : V) (befores : List PostView) (w : V) (afters : List PostView) (sheet : Sheet) : Type 0 where
+pub record LanesDone {K : Type 0} (secret : List ℕ) (term : ℕ) (v : V K) (befores : List PostView) (w : V K) (afters : List PostView) (sheet : Sheet) : Type 0 where
   pub gathered : Gathered v sheet.numbers.items w
   pub rows : List LaneRow
   pub are_rows : AreRows rows sheet.numbers.items befores (lanes_of sheet) sheet.ends.items afters
@@ -71,10 +72,11 @@ abbrev pub Telling : Type 0 → Type 1
 Telling N = KitView N → Round → List E → List E → KitView N → Type 0
 
 -- what holds of a worker of rounds in the history that a pass has seen
-pub record RoundHolds {N : Type 0} (Tells : Telling N) (u : V) (row : KitRow N) : Type 0 where
+pub record RoundHolds {K : Type 0} {N : Type 0} (Tells : Telling N) (u : V K) (row : KitRow N) : Type 0 where
   pub before_last : KitView N
   pub done : HasDone round_places round_full (RoundTells Tells) u row.number row.before row.rounds before_last
   pub closes : RoundsClose row.end row.rounds before_last row.after
+  pub met : some_is round_ends row.rounds ≡ is_by_round row.end
 
 -- what is told of the three kits
 pub record KitsView (N M O : Type 0) : Type 0 where
@@ -95,7 +97,7 @@ pub record RoundsLeft : Type 0 where
   pub tally_end : RoundsEnd
 
 module _ {N M O : Type 0} (AuditTells : Telling N) (RepairTells : Telling M) (TallyTells : Telling O) where
-  pub record AllDone (secret : List ℕ) (term : ℕ) (v : V) (befores : List PostView) (kits : KitsView N M O) (w : V) (afters : List PostView) (kits_after : KitsView N M O) (sheet : Sheet) (left : RoundsLeft) : Type 0 where
+  pub record AllDone {K : Type 0} (secret : List ℕ) (term : ℕ) (v : V K) (befores : List PostView) (kits : KitsView N M O) (w : V K) (afters : List PostView) (kits_after : KitsView N M O) (sheet : Sheet) (left : RoundsLeft) : Type 0 where
     pub gathered : Gathered v sheet.numbers.items w
     pub lane_numbers : List ℕ
     pub audit_number : ℕ
@@ -110,9 +112,9 @@ module _ {N M O : Type 0} (AuditTells : Telling N) (RepairTells : Telling M) (Ta
     pub tally : RoundHolds TallyTells w (record { number = tally_number; before = kits.tally; rounds = left.tallies; end = left.tally_end; after = kits_after.tally })
 
 -- a pass was cut into those of the lanes, of audit, of repair and of tally
-pub record Parted (whole lanes audit repair tally : V) : Type 0 where
-  pub with_repair : V
-  pub with_audit : V
+pub record Parted {K : Type 0} (whole lanes audit repair tally : V K) : Type 0 where
+  pub with_repair : V K
+  pub with_audit : V K
   pub first : with_repair ≡ kept_half whole
   pub tally_is : tally ≡ given_half whole
   pub second : with_audit ≡ kept_half with_repair

@@ -1,7 +1,7 @@
 -- The whole term.
-use Rattle.std.specs.Prelude.{◌≡◌, ℕ, ◌+◌, ◌-◌, ◌^◌, ◌<◌, ◌≤◌, List, [], ◌∷◌, ◌++◌, length, map, Bool, true, cond, nat_lt, ◌||◌, Option, Some, None, flat_map}
+use Rattle.std.specs.Prelude.{◌≡◌, ℕ, ◌+◌, ◌-◌, ◌^◌, ◌<◌, ◌≤◌, List, [], ◌∷◌, ◌++◌, length, map, Bool, true, false, cond, nat_lt, ◌||◌, Option, Some, None, flat_map}
 use Rattle.sat_base.specs.Lane.{Links, LaneView}
-use Rattle.sat_base.specs.Outside.{About, Rose, with_front}
+use Rattle.sat_base.specs.Outside.{About, Rose, counted, with_front}
 use Rattle.turnstile.specs.History.{own}
 use Rattle.desk_runs.specs.Entered.{place_of}
 use Rattle.desk_runs.specs.Numbered.{Apart, Covers, places_of_number, times}
@@ -10,9 +10,9 @@ use Rattle.sat_book.specs.Book.{start_of}
 use Rattle.sat_book.specs.Legal.{E, IsHistory}
 use Rattle.sat_book.specs.declared.opening.Opening.{Opening}
 use Rattle.sat_rounds.specs.Draws.{Gives, IsAmong, as_moment, moments_of, words_of}
-use Rattle.sat_rounds.specs.Lanes.{PostView, AreNumbered, IsLast, session_places, session_full}
+use Rattle.sat_rounds.specs.Lanes.{PostView, AreNumbered, IsLast, is_term_full, session_places, session_full}
 use Rattle.sat_rounds.specs.Listening.{Told}
-use Rattle.sat_rounds.specs.Rounds.{KitView, ends_rounds, round_places, round_full}
+use Rattle.sat_rounds.specs.Rounds.{KitView, ends_rounds, is_by_round, round_ends, round_places, round_full}
 use Rattle.sat_rounds.specs.Serves.{StopsAt}
 use Rattle.sat_rounds.specs.Sessions.{Connects, is_full, is_words_fault}
 use Rattle.sat_rounds.specs.declared.lanes.LaneEnd.{LaneEnd}
@@ -38,6 +38,11 @@ pub record WholeTerm (term : ℕ) (opening : Opening) (history : List E) (passes
   pub once : (place : ℕ) → times place (flat_map (λ ps. ps) places) ≡ cond (nat_lt place (length history)) 1 0
   -- where some session or round met the full term, the term is full
   pub full_is : full ≡ true → length history ≡ term
+
+-- the worker ended since a wait for a connection failed
+abbrev pub is_failed : LaneEnd → Bool
+is_failed causes.Failed = true
+is_failed _ = false
 
 -- why the worker of a lane ended
 abbrev pub LaneCause : LaneEnd → List Session → List E → LaneView → LaneView → Type 0
@@ -71,6 +76,9 @@ pub record LaneClauses (secret : List ℕ) (term : ℕ) (history : List E) (row 
   pub given : row.after.lane.given < 2 ^ 64 - 1 → row.after.lane.given ≡ row.before.lane.given + length row.sessions
   pub numbered : AreNumbered row.sessions
   pub cause : LaneCause row.end row.sessions history row.before.lane row.after.lane
+  -- it ended at the first session that met the full term, and no wait failed but its last
+  pub met : some_is session_full row.sessions ≡ is_term_full row.end
+  pub failed : row.after.lane.faults ≡ counted (is_failed row.end) row.before.lane.faults
   pub links : LinksGrew secret term history row.sessions row.before.lane.links row.after.lane.links
   -- its calls have moments and words of its own clock and source, in order
   pub gave : List ℕ
@@ -96,6 +104,8 @@ AreTold {N} Tells history s (x ∷ xs) made s' = (m : KitView N) × (new rest : 
 pub record RoundClauses {N : Type 0} (Tells : Telling N) (history : List E) (row : KitRow N) : Type 0 where
   pub given : row.after.ticks.given < 2 ^ 64 - 1 → row.after.ticks.given ≡ row.before.ticks.given + length row.rounds
   pub cause : RoundCause row.end row.rounds row.after
+  -- it ended at the first round behind which none comes
+  pub met : some_is round_ends row.rounds ≡ is_by_round row.end
   pub gave : List ℕ
   pub gives : Gives row.before.coming gave row.after.coming
   pub moments : IsAmong (moments_of (own (row.number ∷ []) history)) (map as_moment gave)

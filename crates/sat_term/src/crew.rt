@@ -51,24 +51,24 @@ pub struct Term {
 
 // What the workers of the lanes leave.
 #[derive(Drop)]
-pub(crate) struct LanesWorked<L, T, W> {
-    pub pass: BookPass,
+pub(crate) struct LanesWorked<K, L, T, W> {
+    pub pass: BookPass<K>,
     pub posts: Vec<Post<L, T, W>>,
     pub sheet: Sheet,
 }
 
 // What the workers of rounds leave.
 #[derive(Drop)]
-pub(crate) struct KitsWorked<A, B, C> {
-    pub audit: RoundsWorked<A>,
-    pub repair: RoundsWorked<B>,
-    pub tally: RoundsWorked<C>,
+pub(crate) struct KitsWorked<K, A, B, C> {
+    pub audit: RoundsWorked<K, A>,
+    pub repair: RoundsWorked<K, B>,
+    pub tally: RoundsWorked<K, C>,
 }
 
 // What all workers leave.
 #[derive(Drop)]
-pub(crate) struct Worked<L, T, W, A, B, C> {
-    pub pass: BookPass,
+pub(crate) struct Worked<K, L, T, W, A, B, C> {
+    pub pass: BookPass<K>,
     pub crew: Crew<L, T, W, A, B, C>,
     pub sheet: Sheet,
     pub audits: Vec<Round>,

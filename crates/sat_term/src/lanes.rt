@@ -26,12 +26,12 @@ pub(crate) fn work_lanes<
     rt: &R,
     alloc: Global,
     desk: &Desk<Book<K>>,
-    pass: BookPass,
+    pass: BookPass<K>,
     keys: &Keys,
     posts: Vec<Post<L, T, W>>,
     gate: &G,
     sheet: Sheet,
-) -> LanesWorked<L, T, W>
+) -> LanesWorked<K, L, T, W>
     requires desk { pass.desk ≡ desk.now }
     requires base { IsSome pass.base }
     requires spare { 2 ^ length posts.items ≤ pass.spare }
@@ -52,13 +52,13 @@ pub(crate) fn work_lanes<
     let number = other.number();
     let (done, worked) = join(
         rt,
-        move || -> LanesWorked<L, T, W>
+        move || -> LanesWorked<K, L, T, W>
             requires { IsSync R.row × IsSend K.row × IsSend L.row × IsSend L.Conn.row × IsSend T.row × IsSend W.row × IsSync G.row × (mine.desk ≡ desk.now) × IsSome mine.base × (2 ^ length posts.items ≤ mine.spare) × (length posts.items ≤ 16) × IsBlank (length posts.items) sheet }
             ensures filled { IsFilled (length posts.items) sheet result.sheet }
             ensures room { (length result.posts.items ≡ length posts.items) × (vec_capacity result.posts ≡ vec_capacity posts) }
             ensures done { LanesDone keys.entry.now desk.entry.now.term mine (map (post_view L.about T.coming W.left W.faults) posts.items) result.pass (map (post_view L.about T.coming W.left W.faults) result.posts.items) result.sheet }
         { work_lanes(rt, alloc, desk, mine, keys, posts, gate, sheet) },
-        move || -> LaneWorked<L, T, W>
+        move || -> LaneWorked<K, L, T, W>
             requires { (other.desk ≡ desk.now) × IsSome other.base }
             ensures { LaneRan keys.entry.now desk.entry.now.term (post_view L.about T.coming W.left W.faults post) other result.sessions.items result.end (post_view L.about T.coming W.left W.faults result.post) result.pass }
         { lane_worker(rt, alloc, desk, other, keys, post, gate, lane) },

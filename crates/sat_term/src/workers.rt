@@ -1,5 +1,6 @@
 // All workers at once.
 ghost use Rattle.std.specs.Prelude.{◌≡◌, ◌+◌, ◌^◌, ◌≤◌, length, map, vec_capacity, IsSome};
+ghost use Rattle.sat_book.specs.Book.{opening_of};
 ghost use Rattle.sat_rounds.specs.Lanes.{post_view};
 ghost use Rattle.sat_rounds.specs.Rounds.{RoundsRan};
 ghost use Rattle.sat_term.specs.Crew.{AllDone, IsBlank, IsFilled, LanesDone, Parted, kits_view};
@@ -17,15 +18,15 @@ use std::thread::{Threads, join};
 use turnstile::Desk;
 
 // The passes of the lanes and of the workers of rounds.
-struct Parts {
-    lanes: BookPass,
-    audit: BookPass,
-    repair: BookPass,
-    tally: BookPass,
+struct Parts<K> {
+    lanes: BookPass<K>,
+    audit: BookPass<K>,
+    repair: BookPass<K>,
+    tally: BookPass<K>,
 }
 
 // Cuts a pass into those of the workers of rounds and one for the lanes, whose numbers come first.
-fn part<K: Keeper>(desk: &Desk<Book<K>>, pass: BookPass) -> Parts
+fn part<K: Keeper>(desk: &Desk<Book<K>>, pass: BookPass<K>) -> Parts<K>
     requires desk { pass.desk ≡ desk.now }
     requires base { IsSome pass.base }
     requires spare { 2 ^ 19 ≤ pass.spare }
@@ -53,12 +54,12 @@ fn work_posts<K: Keeper + Send, L: Lane, T: Clock, W: Words, G: Gate, R: Threads
     rt: &R,
     alloc: Global,
     desk: &Desk<Book<K>>,
-    pass: BookPass,
+    pass: BookPass<K>,
     keys: &Keys,
     posts: Vec<Post<L, T, W>>,
     gate: &G,
     sheet: Sheet,
-) -> LanesWorked<L, T, W>
+) -> LanesWorked<K, L, T, W>
     requires desk { (pass.desk ≡ desk.now) × IsSome pass.base }
     requires spare { 2 ^ 16 ≤ pass.spare }
     requires few { length posts.items ≤ 16 }
@@ -85,19 +86,19 @@ pub(crate) fn work_all<
     rt: &R,
     alloc: Global,
     desk: &Desk<Book<K>>,
-    pass: BookPass,
+    pass: BookPass<K>,
     keys: &Keys,
     crew: Crew<L, T, W, A, B, C>,
     gate: &G,
     sheet: Sheet,
-) -> Worked<L, T, W, A, B, C>
+) -> Worked<K, L, T, W, A, B, C>
     requires desk { pass.desk ≡ desk.now }
     requires base { IsSome pass.base }
     requires spare { 2 ^ 19 ≤ pass.spare }
     requires few { length crew.posts.items ≤ 16 }
     requires sheet { IsBlank (length crew.posts.items) sheet }
     requires room { length crew.posts.items + 3 ≤ vec_capacity sheet.numbers }
-    ensures { AllDone (A.tells pass.base) (B.tells pass.base) (C.tells pass.base) keys.now desk.now.term pass
+    ensures { AllDone (A.tells (opening_of pass.base)) (B.tells (opening_of pass.base)) (C.tells (opening_of pass.base)) keys.now desk.now.term pass
         (map (post_view L.about T.coming W.left W.faults) crew.posts.items) (kits_view A.view B.view C.view crew.kits) result.pass
         (map (post_view L.about T.coming W.left W.faults) result.crew.posts.items) (kits_view A.view B.view C.view result.crew.kits) result.sheet (record {
           audits = result.audits.items;
@@ -120,16 +121,16 @@ pub(crate) fn work_all<
     let audit_number = for_audit.number();
     let (lanes, worked) = join(
         rt,
-        move || -> LanesWorked<L, T, W>
+        move || -> LanesWorked<K, L, T, W>
             requires { ((pass.desk ≡ desk.now) × IsSome pass.base) × (2 ^ 16 ≤ pass.spare) × (length posts.items ≤ 16) × IsBlank (length posts.items) sheet }
             ensures filled { IsFilled (length posts.items) sheet result.sheet }
             ensures done { LanesDone keys.entry.now desk.entry.now.term pass (map (post_view L.about T.coming W.left W.faults) posts.items) result.pass (map (post_view L.about T.coming W.left W.faults) result.posts.items) result.sheet }
         { work_posts(rt, alloc, desk, pass, keys, posts, gate, sheet) },
-        move || -> KitsWorked<A, B, C>
+        move || -> KitsWorked<K, A, B, C>
             requires { ((for_audit.desk ≡ desk.now) × IsSome for_audit.base) × ((for_repair.desk ≡ desk.now) × IsSome for_repair.base) × ((for_tally.desk ≡ desk.now) × IsSome for_tally.base) }
-            ensures audit { RoundsRan (A.tells for_audit.base) (A.view kits.audit) for_audit result.audit.rounds.items result.audit.end (A.view result.audit.kit) result.audit.pass }
-            ensures repair { RoundsRan (B.tells for_repair.base) (B.view kits.repair) for_repair result.repair.rounds.items result.repair.end (B.view result.repair.kit) result.repair.pass }
-            ensures tally { RoundsRan (C.tells for_tally.base) (C.view kits.tally) for_tally result.tally.rounds.items result.tally.end (C.view result.tally.kit) result.tally.pass }
+            ensures audit { RoundsRan (A.tells (opening_of for_audit.base)) (A.view kits.audit) for_audit result.audit.rounds.items result.audit.end (A.view result.audit.kit) result.audit.pass }
+            ensures repair { RoundsRan (B.tells (opening_of for_repair.base)) (B.view kits.repair) for_repair result.repair.rounds.items result.repair.end (B.view result.repair.kit) result.repair.pass }
+            ensures tally { RoundsRan (C.tells (opening_of for_tally.base)) (C.view kits.tally) for_tally result.tally.rounds.items result.tally.end (C.view result.tally.kit) result.tally.pass }
         {
             work_kits(
                 rt, alloc, desk, for_audit, for_repair, for_tally, gate, kits,

@@ -1,29 +1,33 @@
 //! The satellite's program: its words, its devices, and the top call over both.
 //!
-//! `main` hands the words and the real devices to `satellite_cli::satellite`, and its status to the system: the console,
-//! the system's clock and random words, and for `init` the store's file as well. Words that are no text are read as none,
-//! which is no command either. What the commands do is `satellite_cli`'s contract. Of `main` itself nothing is proved but
-//! that it is safe; the gate runs it on examples.
+//! `main` hands the words and the real devices to `satellite_cli::satellite`, and its status to the system: the console
+//! for each command, and for `init` and `serve` the store's file as well, for `serve` a port for each lane. Words that are
+//! no text are read as none, which is no command either. What the commands do is `satellite_cli`'s contract. Of `main`
+//! itself nothing is proved but that it is safe; the gate runs it on examples.
 #![tactic(auto)]
 
+mod devices;
 mod store;
 
+use devices::{bound, devices};
 use sat_base::{KeeperMem, Line, NoMemory};
-use sat_devices::{Console, MachineWords, SystemClock};
-use satellite_cli::{Command, LineErr, Status, World, read_line, satellite};
+use sat_devices::Console;
+use satellite_cli::{Command, LineErr, Status, read_line};
 use std::alloc::Global;
 use std::env::Env;
 use std::io::ErrorKind;
 use std::process::ExitCode;
+use std::sync::Wait;
+use std::thread::Threads;
 use std::{env, io};
-use store::over_file;
+use store::{OpenStore, over_file};
 
-// Where the store's file can't be had.
+// Where a port or the store's file can't be had.
 const START: u8 = 20;
 
 /// Why the top call isn't made.
 pub enum StartErr {
-    /// The store's file can't be opened, or isn't a store.
+    /// A port can't be bound, or the store's file can't be opened or isn't a store.
     Start,
     /// Memory is wanting.
     NoMemory,
@@ -44,32 +48,64 @@ fn words<R: Env + AllocGlobal>(rt: &R, alloc: Global) -> Result<Line, NoMemory> 
 }
 
 // A run of a command without a store.
-fn without_store(rt: HostRuntime, alloc: Global, line: &Line) -> u8 {
-    let world = World {
-        console: Console::new(rt.reader(), io::writer(&rt)),
-        keeper: KeeperMem::of(Vec::new(alloc), Vec::new(alloc)),
-        clock: SystemClock::new(rt),
-        words: MachineWords::new(rt),
-    };
-    satellite(alloc, line, world).status
+fn without_store<R: Threads + Wait + Sync>(
+    rt: HostRuntime,
+    handles: &R,
+    alloc: Global,
+    line: &Line,
+) -> u8 {
+    let keeper = KeeperMem::of(Vec::new(alloc), Vec::new(alloc));
+    let console = Console::new(rt.reader(), io::writer(&rt));
+    let posts = Vec::new(alloc);
+    let world = devices(rt, console, keeper, posts, 0);
+    devices::run(handles, alloc, line, world).status
 }
 
-fn run(rt: HostRuntime, alloc: Global) -> Result<u8, StartErr> {
-    let Ok(line) = words(&rt, alloc) else {
-        return Err(StartErr::NoMemory);
+fn run<R: Threads + Wait + Sync>(
+    rt: HostRuntime,
+    handles: &R,
+    alloc: Global,
+) -> Result<u8, StartErr> {
+    let line = match words(&rt, alloc) {
+        Ok(line) => line,
+        Err(NoMemory) => return Err(StartErr::NoMemory),
     };
     match read_line(alloc, &line) {
-        Ok(Command::Init { store, .. }) => over_file(rt, alloc, &line, store.as_slice()),
-        Ok(_) | Err(LineErr::Usage) => Ok(without_store(rt, alloc, &line)),
+        Ok(Command::Init { store, .. }) => {
+            let open = OpenStore {
+                name: store.as_slice(),
+                posts: Vec::new(alloc),
+                tick: 0,
+            };
+            over_file(rt, handles, alloc, &line, open)
+        }
+        Ok(
+            Command::Serve {
+                store,
+                port,
+                lanes,
+                tick,
+                ..
+            },
+        ) => {
+            let posts = bound(rt, alloc, port, lanes)?;
+            let open = OpenStore {
+                name: store.as_slice(),
+                posts,
+                tick,
+            };
+            over_file(rt, handles, alloc, &line, open)
+        }
+        Ok(_) | Err(LineErr::Usage) => Ok(without_store(rt, handles, alloc, &line)),
         Err(LineErr::NoMemory) => Err(StartErr::NoMemory),
     }
 }
 
 fn main(rt: HostRuntime) -> ExitCode {
-    let status = match run(rt, rt.alloc()) {
-        Ok(status) => status,
-        // The status stands whether its line can be printed or not.
+    let status = match run(rt, &rt, rt.alloc()) {
+        Ok(status) => return ExitCode::from(status),
         Err(StartErr::Start) => {
+            // The status stands whether its line can be printed or not.
             let _ = rt.print("error: start\n");
             START
         }

@@ -1,21 +1,36 @@
 // Runs over the file of a store.
 use crate::StartErr;
+use crate::devices::{Lanes, devices, run};
 use keeper_sqlite::{KeeperSqlite, Refused};
 use sat_base::Line;
-use sat_devices::{Console, MachineWords, SystemClock};
-use satellite_cli::{World, satellite};
+use sat_devices::Console;
 use sqlite::{Alter, Connection, Error, ErrorCode};
 use std::alloc::Global;
+use std::sync::Wait;
+use std::thread::Threads;
 use std::{io, str};
 
+// The most lanes of a run.
+const LANES: usize = 16;
+
+/// The name of a store's file, the lanes that serve it, and the seconds between two ticks.
+pub struct OpenStore<'a> {
+    pub name: &'a [u8],
+    pub posts: Lanes,
+    pub tick: u32,
+}
+
 // A run over a store, whatever it is.
-fn over_store<S: Alter + Drop>(
+fn over_store<S: Alter + Drop + Send, R: Threads + Wait + Sync>(
     rt: HostRuntime,
+    handles: &R,
     alloc: Global,
     line: &Line,
     conn: Connection<S>,
+    posts: Lanes,
+    tick: u32,
 ) -> Result<(u8, Connection<S>), StartErr> {
-    if !conn.is_autocommit() {
+    if posts.len() > LANES || !conn.is_autocommit() {
         return Err(StartErr::Start);
     }
     let keeper = match KeeperSqlite::of(conn) {
@@ -23,18 +38,21 @@ fn over_store<S: Alter + Drop>(
         Err(Refused::Fault) => return Err(StartErr::Start),
         Err(Refused::NoMemory) => return Err(StartErr::NoMemory),
     };
-    let world = World {
-        console: Console::new(rt.reader(), io::writer(&rt)),
-        keeper,
-        clock: SystemClock::new(rt),
-        words: MachineWords::new(rt),
-    };
-    let ended = satellite(alloc, line, world);
+    let console = Console::new(rt.reader(), io::writer(&rt));
+    let world = devices(rt, console, keeper, posts, tick);
+    let ended = run(handles, alloc, line, world);
     Ok((ended.status, ended.world.keeper.into_connection()))
 }
 
 /// A run over the file of this name, which is closed at the end, so that one file is left.
-pub fn over_file(rt: HostRuntime, alloc: Global, line: &Line, name: &[u8]) -> Result<u8, StartErr> {
+pub fn over_file<R: Threads + Wait + Sync>(
+    rt: HostRuntime,
+    handles: &R,
+    alloc: Global,
+    line: &Line,
+    open: OpenStore<'_>,
+) -> Result<u8, StartErr> {
+    let OpenStore { name, posts, tick } = open;
     let Ok(path) = str::from_utf8(name) else {
         return Err(StartErr::Start);
     };
@@ -43,7 +61,7 @@ pub fn over_file(rt: HostRuntime, alloc: Global, line: &Line, name: &[u8]) -> Re
         Err(Error::SqliteFailure(ErrorCode::OutOfMemory)) => return Err(StartErr::NoMemory),
         Err(_) => return Err(StartErr::Start),
     };
-    let (status, conn) = over_store(rt, alloc, line, conn)?;
+    let (status, conn) = over_store(rt, handles, alloc, line, conn, posts, tick)?;
     // What was committed stands whether it can be closed or not.
     let _ = conn.close();
     Ok(status)

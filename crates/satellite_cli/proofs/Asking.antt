@@ -1,11 +1,10 @@
 -- What the words of `init` ask for is what the store is made with.
-use Rattle.std.proofs.Common.{◌≡◌, ℕ, List, Option, Some, refl, sym, ◌∙◌}
+use Rattle.std.proofs.Common.{◌≡◌, ℕ, List, Option, Some, sym, ◌∙◌}
 use Rattle.sat_base.specs.declared.rates.Rates.{Rates}
 use Rattle.sat_base.specs.declared.scheme.Scheme.{Scheme}
 use Rattle.sat_base.specs.declared.settings.Caps.{Caps}
-use Rattle.command_line.specs.Command.{Asked, NewStore, command_of, numbers_of}
-use Rattle.command_line.specs.Command.Asked.{init}
-use Rattle.sat_init.specs.declared.setup.Setup.{Setup}
+use Rattle.command_line.specs.Command.{NewStore, Server, command_of, numbers_of}
+use Rattle.command_line.specs.Command.Asked.{init, serve}
 use Rattle.satellite_cli.specs.Making.{IsAsked}
 
 same_store : (a b : NewStore) → Some (init a) ≡ Some (init b) → a ≡ b
@@ -25,3 +24,10 @@ is_asked store secret scheme vet fresh rates caps line asked is same =
       rates = λ i. (e i).rates;
       caps = λ i. (e i).caps;
     }
+
+same_server : (a b : Server) → Some (serve a) ≡ Some (serve b) → a ≡ b
+same_server a b e = cc
+
+-- the term that the words of `serve` ask for is the one that is served
+pub same_term : (said asked : Server) (line : List (List ℕ)) → command_of line ≡ Some (serve said) → command_of line ≡ Some (serve asked) → asked.term ≡ said.term
+same_term said asked line is same = let e = same_server said asked (sym is ∙ same) in λ i. (sym e i).term

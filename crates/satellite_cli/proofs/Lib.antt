@@ -1,1 +1,4 @@
 pub mod Asking
+pub mod Ends
+pub mod Inits
+pub mod Terms

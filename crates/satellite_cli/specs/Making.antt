@@ -1,7 +1,7 @@
 -- What `init` writes, and what it leaves in the keeper.
-use Rattle.std.specs.Prelude.{◌≡◌, ◌⊎◌, ℕ, List, [], ◌∷◌, ◌++◌, take, codes, ◌==◌, if◌then◌else◌}
+use Rattle.std.specs.Prelude.{◌≡◌, ◌⊎◌, ℕ, List, [], ◌∷◌, ◌++◌, codes, ◌==◌, if◌then◌else◌}
 use Rattle.hex.specs.Hex.{encode_lower}
-use Rattle.sat_base.specs.Outside.{About, KeepsInput, Rose, with_end}
+use Rattle.sat_base.specs.Outside.{About, Rose, with_end}
 use Rattle.sat_base.specs.Rows.{Rows, AreThe}
 use Rattle.sat_base.specs.declared.rows.Row.{Row}
 use Rattle.command_line.specs.Command.{NewStore, numbers_of}

@@ -4,19 +4,27 @@
 //! [`World`]:
 //!
 //! - `settle` and `judge` answer the console's input (`sat_console`);
-//! - `init` makes a store in the keeper (`sat_init`) and writes the operator's key.
+//! - `init` makes a store in the keeper (`sat_init`) and writes the operator's key;
+//! - `serve` opens a book over the keeper, has all lanes work at once until they end (`sat_term`), and writes how many
+//!   entries there were. What happened is its [`Term`].
 //!
-//! Each status has its cause; what a run wrote and left in the keeper stands in its clauses.
+//! Each status has its cause; what a run wrote, left in the keeper and left in the history stands in its clauses.
 //!
-//! Not promised: that memory is found (9 has no cause that a clause could name), or that a read or a write returns. No
-//! command serves connections yet. Errors stand on the console (`docs/OPERATING.md`).
+//! Not promised: that memory is found (9 has no cause that a clause could name), that a read, a write or a connection
+//! comes. There are no workers of rounds yet: the kits are handed back as they came. Errors stand on the console.
 #![tactic(auto)]
 
+mod ending;
 mod making;
+mod no_rounds;
+mod opening;
+mod serving;
 mod top;
 mod world;
 
 pub use command_line::{Command, LineErr, read_line};
 pub use sat_console::Status;
+pub use sat_rounds::Post;
+pub use sat_term::Term;
 pub use top::satellite;
-pub use world::{Ended, World};
+pub use world::{Ended, Kit, World};

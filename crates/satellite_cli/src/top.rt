@@ -1,53 +1,62 @@
 // The top call.
-ghost use Rattle.std.specs.Prelude.{◌≡◌, ◌≤◌, ◌↔◌, ◌⊎◌, ℕ, List, Some, None, MatchResult, length, false};
+ghost use Rattle.std.specs.Prelude.{◌≡◌, ◌≤◌, ◌↔◌, ◌⊎◌, ℕ, List, [], Some, None, IfSome, length, map, MatchResult, false};
 ghost use Rattle.sat_base.specs.Outside.{Rose};
-ghost use Rattle.sat_base.specs.Rows.{Rows};
-ghost use Rattle.command_line.specs.Command.{NewStore, command_of, names_store};
-ghost use Rattle.command_line.specs.Command.Asked.{settle, judge, init};
+ghost use Rattle.sat_base.specs.Rows.{AreThe, Rows};
+ghost use Rattle.command_line.specs.Command.{NewStore, Server, command_of, names_store};
+ghost use Rattle.command_line.specs.Command.Asked.{settle, judge, init, serve};
+ghost use Rattle.sat_book.specs.Book.{BookView, start_of};
+ghost use Rattle.sat_book.specs.Openings.{Opens};
 ghost use Rattle.sat_console.specs.Answers.{IsSettleText, answers_to};
 ghost use Rattle.sat_console.specs.Judge.{Judges, RefusesLine, shares_of};
 ghost use Rattle.sat_console.specs.Once.{SettlesOnce};
 ghost use Rattle.sat_console.specs.Run.{NoRefusal, Ran, Says, code_of, fault_line, max_input};
 ghost use Rattle.sat_init.specs.Init.{IsMade};
 ghost use Rattle.sat_init.specs.declared.setup.Setup.{Setup};
+ghost use Rattle.sat_rounds.specs.Lanes.{post_view};
 ghost use Rattle.satellite_cli.specs.Making.{Inits, IsAsked};
+ghost use Rattle.satellite_cli.specs.Serving.{AreSound, IsIdle, IsTerm, NoneRose, NotOpened};
 
 use crate::making::make_store;
+use crate::serving::{Run, serve};
 use crate::world::{Ended, World};
 use command_line::{Command, LineErr, read_line};
-use sat_base::{Clock, Keeper, Line, Link, Words};
+use sat_base::{Clock, Gate, Keeper, Lane, Line, Link, Words};
 use sat_console::{Status, fault, judge, settle};
 use sat_init::Setup;
 use std::alloc::Global;
+use std::sync::Wait;
+use std::thread::Threads;
 
-fn ended<C: Link, K: Keeper, T: Clock, W: Words>(
+fn ended<C: Link, K: Keeper + Send, L: Lane, N, T: Clock, W: Words, I, G: Gate>(
     status: Status,
-    world: World<C, K, T, W>,
-) -> Ended<C, K, T, W>
-    ensures { result ≡ record { status = code_of status; world = world } }
+    world: World<C, K, L, N, T, W, I, G>,
+) -> Ended<C, K, L, N, T, W, I, G>
+    ensures { result ≡ record { status = code_of status; world = world; term = None } }
 {
     Ended {
         status: status.code(),
         world,
+        term: None,
     }
 }
 
 // `init` over a world.
-fn init_world<C: Link, K: Keeper, T: Clock, W: Words>(
+fn init_world<C: Link, K: Keeper + Send, L: Lane, N, T: Clock, W: Words, I, G: Gate>(
     alloc: Global,
     setup: &Setup,
-    world: World<C, K, T, W>,
-) -> Ended<C, K, T, W>
+    world: World<C, K, L, N, T, W, I, G>,
+) -> Ended<C, K, L, N, T, W, I, G>
     ensures not_usage { result.status ≡ 2 → ⊥ }
     ensures inits { Inits setup.now (record {
-      coming = T.coming world.clock;
-      coming_after = T.coming result.world.clock;
-      words = W.left world.words;
-      words_after = W.left result.world.words;
+      coming = T.coming world.audit.clock;
+      coming_after = T.coming result.world.audit.clock;
+      words = W.left world.audit.words;
+      words_after = W.left result.world.audit.words;
     }) result.status (C.about world.console) (C.about result.world.console)
         (K.faults world.keeper) (K.faults result.world.keeper)
-        (W.faults world.words) (W.faults result.world.words)
+        (W.faults world.audit.words) (W.faults result.world.audit.words)
         (K.is_open result.world.keeper × K.tells world.keeper) (K.rows world.keeper) (K.rows result.world.keeper) }
+    ensures kits { (result.world.repair ≡ world.repair) × (result.world.tally ≡ world.tally) × (result.world.gate ≡ world.gate) }
     ensures crash { K.is_clean result.world.keeper → (m : Rows) → K.leaves result.world.keeper m → K.leaves world.keeper m
         ⊎ (K.is_open world.keeper × IsMade setup.now (K.tells world.keeper) (K.rows world.keeper) m) }
 {
@@ -57,10 +66,76 @@ fn init_world<C: Link, K: Keeper, T: Clock, W: Words>(
         setup,
         &mut world.console,
         &mut world.keeper,
-        &mut world.clock,
-        &mut world.words,
+        &mut world.audit.clock,
+        &mut world.audit.words,
     );
     ended(status, world)
+}
+
+// `serve` over a world.
+fn serve_world<
+    C: Link,
+    K: Keeper + Send,
+    L: Lane,
+    N,
+    T: Clock,
+    W: Words,
+    I,
+    G: Gate,
+    R: Threads + Wait + Sync,
+>(
+    rt: &R,
+    alloc: Global,
+    term: u64,
+    world: World<C, K, L, N, T, W, I, G>,
+) -> Ended<C, K, L, N, T, W, I, G>
+    requires term { (1 ≤ term) × (term ≤ 65536) }
+    requires few { length world.posts.items ≤ 16 }
+    ensures not_usage { result.status ≡ 2 → ⊥ }
+    ensures closed { result.term ≡ None → NotOpened K.faults K.is_clean K.is_open K.tells K.rows K.leaves
+        world.keeper result.world.keeper result.status (C.about world.console) (C.about result.world.console) }
+    ensures term { IfSome result.term (λ t. (book : BookView K) × Opens K.faults K.is_clean K.is_open K.tells K.rows K.leaves
+        world.keeper term book
+        × (IsTerm K.faults K.is_clean K.is_open K.tells K.rows K.leaves (start_of book.opening).setup.secret term book result.world.keeper t
+        result.status (C.about world.console) (C.about result.world.console)
+        (map (post_view L.about T.coming W.left W.faults) world.posts.items)
+        (map (post_view L.about T.coming W.left W.faults) result.world.posts.items)
+        ⊎ IsIdle K.faults K.is_clean K.is_open K.tells K.rows K.leaves (length world.posts.items) book result.world.keeper t
+        result.status (C.about world.console) (C.about result.world.console)
+        (map (post_view L.about T.coming W.left W.faults) world.posts.items)
+        (map (post_view L.about T.coming W.left W.faults) result.world.posts.items))) }
+    ensures audit { result.world.audit ≡ world.audit }
+    ensures kits { (result.world.repair ≡ world.repair) × (result.world.tally ≡ world.tally) × (result.world.gate ≡ world.gate) }
+{
+    let World {
+        mut console,
+        keeper,
+        posts,
+        audit,
+        repair,
+        tally,
+        gate,
+    } = world;
+    let run = serve(rt, alloc, term, &mut console, keeper, posts, &gate);
+    let Run {
+        status,
+        keeper,
+        posts,
+        term,
+    } = run;
+    Ended {
+        status: status.code(),
+        world: World {
+            console,
+            keeper,
+            posts,
+            audit,
+            repair,
+            tally,
+            gate,
+        },
+        term,
+    }
 }
 
 /// Runs the command that the words are, over the devices of a world.
@@ -71,11 +146,24 @@ fn init_world<C: Link, K: Keeper, T: Clock, W: Words>(
 /// `init` makes a store in the keeper, which has to have no rows, and writes the operator's key.
 ///
 /// The status says how it ended; each has its cause. The console's faults are counted by it.
-pub fn satellite<C: Link, K: Keeper, T: Clock, W: Words>(
+pub fn satellite<
+    C: Link,
+    K: Keeper + Send,
+    L: Lane,
+    N,
+    T: Clock,
+    W: Words,
+    I,
+    G: Gate,
+    R: Threads + Wait + Sync,
+>(
+    rt: &R,
     alloc: Global,
     line: &Line,
-    world: World<C, K, T, W>,
-) -> Ended<C, K, T, W>
+    world: World<C, K, L, N, T, W, I, G>,
+) -> Ended<C, K, L, N, T, W, I, G>
+    requires { length world.posts.items ≤ 16 }
+
     // 2 exactly where the words are outside the grammar, and then the console says so.
     ensures usage { (result.status ≡ 2) ↔ (command_of line.now ≡ None) }
     ensures usage_line { command_of line.now ≡ None →
@@ -116,25 +204,66 @@ pub fn satellite<C: Link, K: Keeper, T: Clock, W: Words>(
 
     // A command without a store leaves all but the console as it was.
     ensures idle { names_store (command_of line.now) ≡ false →
-        (result.world.keeper ≡ world.keeper) × (result.world.clock ≡ world.clock) × (result.world.words ≡ world.words) }
+        (result.world ≡ record world { console = result.world.console }) × (result.term ≡ None) }
 
     // `init`: the store that was made, and the key that was written; or why there is none, and the keeper's rows as they were.
     ensures init { (store : NewStore) → command_of line.now ≡ Some (init store) →
         ((setup : Setup) × IsAsked store setup × Inits setup (record {
-          coming = T.coming world.clock;
-          coming_after = T.coming result.world.clock;
-          words = W.left world.words;
-          words_after = W.left result.world.words;
+          coming = T.coming world.audit.clock;
+          coming_after = T.coming result.world.audit.clock;
+          words = W.left world.audit.words;
+          words_after = W.left result.world.audit.words;
         }) result.status (C.about world.console) (C.about result.world.console)
         (K.faults world.keeper) (K.faults result.world.keeper)
-        (W.faults world.words) (W.faults result.world.words)
+        (W.faults world.audit.words) (W.faults result.world.audit.words)
         (K.is_open result.world.keeper × K.tells world.keeper) (K.rows world.keeper) (K.rows result.world.keeper))
         ⊎ ((result.status ≡ 9) × (result.world.keeper ≡ world.keeper)
         × Says (fault_line 9) (C.about world.console) (C.about result.world.console)) }
 
+    // Over an empty store, while no count rises: 0, or want of memory.
+    ensures init_complete { (store : NewStore) → command_of line.now ≡ Some (init store) →
+        K.is_open result.world.keeper → K.tells world.keeper → AreThe (K.rows world.keeper) [] →
+        (Rose (K.faults world.keeper) (K.faults result.world.keeper) → ⊥) →
+        (Rose (W.faults world.audit.words) (W.faults result.world.audit.words) → ⊥) →
+        (Rose (C.about world.console).write_faults (C.about result.world.console).write_faults → ⊥) →
+        (result.status ≡ 0) ⊎ (result.status ≡ 9) }
+
     // A crash leaves the rows that the keeper might have left before, or those of the store that was to be made.
-    ensures crash { K.is_clean result.world.keeper → (m : Rows) → K.leaves result.world.keeper m → K.leaves world.keeper m
+    ensures crash { (store : NewStore) → command_of line.now ≡ Some (init store) →
+        K.is_clean result.world.keeper → (m : Rows) → K.leaves result.world.keeper m → K.leaves world.keeper m
         ⊎ ((setup : Setup) × K.is_open world.keeper × IsMade setup (K.tells world.keeper) (K.rows world.keeper) m) }
+    // `serve`: without a book, why there is none.
+    ensures closed { (server : Server) → command_of line.now ≡ Some (serve server) → result.term ≡ None →
+        NotOpened K.faults K.is_clean K.is_open K.tells K.rows K.leaves
+        world.keeper result.world.keeper result.status (C.about world.console) (C.about result.world.console) }
+
+    // With one, the term: its history is that of one machine, of which each worker made just the entries that its sessions
+    // name; the keeper has the rows of its replay; and how each worker, and the run, ended.
+    ensures serve { (server : Server) → command_of line.now ≡ Some (serve server) →
+        IfSome result.term (λ t. (book : BookView K) × Opens K.faults K.is_clean K.is_open K.tells K.rows K.leaves
+        world.keeper server.term book
+        × (IsTerm K.faults K.is_clean K.is_open K.tells K.rows K.leaves (start_of book.opening).setup.secret server.term book result.world.keeper t
+        result.status (C.about world.console) (C.about result.world.console)
+        (map (post_view L.about T.coming W.left W.faults) world.posts.items)
+        (map (post_view L.about T.coming W.left W.faults) result.world.posts.items)
+        ⊎ IsIdle K.faults K.is_clean K.is_open K.tells K.rows K.leaves (length world.posts.items) book result.world.keeper t
+        result.status (C.about world.console) (C.about result.world.console)
+        (map (post_view L.about T.coming W.left W.faults) world.posts.items)
+        (map (post_view L.about T.coming W.left W.faults) result.world.posts.items))) }
+
+    // Over sound rows, while no count rises, and unless the term was full or a lane had all its sessions: 0, or want of memory.
+    ensures serve_complete { (server : Server) → command_of line.now ≡ Some (serve server) →
+        K.is_open result.world.keeper → K.tells world.keeper → AreSound (K.rows world.keeper) →
+        (Rose (K.faults world.keeper) (K.faults result.world.keeper) → ⊥) →
+        (Rose (C.about world.console).write_faults (C.about result.world.console).write_faults → ⊥) →
+        NoneRose (map (post_view L.about T.coming W.left W.faults) world.posts.items)
+        (map (post_view L.about T.coming W.left W.faults) result.world.posts.items) →
+        (result.status ≡ 6 → ⊥) →
+        (result.status ≡ 0) ⊎ (result.status ≡ 9) }
+
+    // There are no workers of rounds yet: their kits are handed back as they came, but for what `init` draws.
+    ensures kits { (result.world.repair ≡ world.repair) × (result.world.tally ≡ world.tally) × (result.world.gate ≡ world.gate) }
+    ensures audit { (server : Server) → command_of line.now ≡ Some (serve server) → result.world.audit ≡ world.audit }
 {
     let mut world = world;
     let status = match read_line(alloc, line) {
@@ -161,6 +290,7 @@ pub fn satellite<C: Link, K: Keeper, T: Clock, W: Words>(
             };
             return init_world(alloc, &setup, world);
         }
+        Ok(Command::Serve { term, .. }) => return serve_world(rt, alloc, term, world),
         Err(LineErr::Usage) => fault(&mut world.console, Status::Usage),
         Err(LineErr::NoMemory) => {
             let status = fault(&mut world.console, Status::NoMemory);

@@ -5,8 +5,8 @@ use Rattle.bw_decode.proofs.answers.column_off.Goals as goal
 
 pub returns-clause-some : goal.returns-clause-some
 returns-clause-some c =
-    let row = c.encode_share_with.new.out in
+    let row = c.write_share.new.share in
     IfSome_then c.find_difference.result c.find_difference.ensures.some
     (λ place found. differs_there c.args.scheme.now.k c.args.scheme.now.share place c.args.stripe.now row c.args.answer.now
-    c.requires.whole c.encode_share_with.ensures (omega (arith, c.encode_share_with.auto.out, c.requires.share))
+    c.requires.whole c.write_share.ensures (omega (arith, c.write_share.auto.share, c.requires.share))
     (subst (λ bytes. (place < length row) × (slice_index row place ≢ slice_index bytes place)) c.as_slice.ensures found))

@@ -1,6 +1,6 @@
 use Rattle.std.proofs.Common.{refl, sym, ◌∙◌}
 use Rattle.sat_rounds.specs.declared.told.Session.{Session}
-use Rattle.sat_rounds.proofs.LaneLemmas.{ran_full, ran_stopped, so_far_more}
+use Rattle.sat_rounds.proofs.LaneLemmas.{far_on, ran_full, ran_stopped, so_far_more}
 use Rattle.sat_rounds.proofs.lanes.lane_worker.Goals as goal
 
 pub returns-then-stops : goal.returns-then-stops
@@ -21,4 +21,5 @@ pub loop-number-preserved : goal.loop-number-preserved
 loop-number-preserved g c =
     let s = c.serve-after.ensures in
     let x : Session = record { number = c.loop-number.number; end = c.serve-after.result.end } in
-    so_far_more _ _ _ _ _ _ _ _ x _ _ _ _ _ _ _ c.loop-number.invariant c.in-Conn.ensures.0 c.in-Conn.ensures.1 c.back.ensures s.serves refl c.reserve.ensures.items c.push_reserved.ensures.items
+    let far = so_far_more _ _ _ _ _ _ _ _ x _ _ _ _ _ _ _ c.loop-number.invariant c.in-Conn.ensures.0 c.in-Conn.ensures.1 c.back.ensures s.serves refl c.reserve.ensures.items c.push_reserved.ensures.items in
+    far_on _ _ _ _ _ _ _ _ (sym c.is_full.ensures ∙ c.if-is_full.false) far

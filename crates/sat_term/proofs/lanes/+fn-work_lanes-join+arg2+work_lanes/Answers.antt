@@ -7,7 +7,7 @@ use Rattle.std.proofs.Crossing.{crosses}
 use Rattle.turnstile.proofs.desk.Desk.TheSendSync as desk_is
 use Rattle.turnstile.proofs.pass.Pass.TheSendSync as pass_is
 use Rattle.sat_term.proofs.Crossing.{book_send, keys_sync, posts_send, sheet_send}
-use Rattle.sat_book.specs.declared.opening.Opening.{Opening}
+use Rattle.sat_book.specs.declared.opening.Origin.{Origin}
 use Rattle.sat_rounds.specs.Lanes.{post_view}
 use Rattle.sat_rounds.specs.Sessions.{V}
 use Rattle.sat_rounds.specs.declared.told.Session.{Session}
@@ -41,7 +41,7 @@ join-done-requires-send-F g t c κs within =
 pub join-done-requires-after_bounds : goal.join-done-requires-after_bounds
 join-done-requires-after_bounds g t c κs within =
     let one : length c.pop.new.self.items + 1 ≡ length c.args.posts.items = (let a = c.args.posts.ok.0 in let b = c.pop.new.self.ok.0 in let d = c.in-Some.ensures.cases in omega arith) in
-    let spare = halved (length c.pop.new.self.items) _ _ _ one c.requires.spare (ap (λ (k : V). k.spare) c.split-mine.ensures.kept) in
+    let spare = halved (length c.pop.new.self.items) _ _ _ one c.requires.spare (ap (λ (k : V g.row.K.Denot). k.spare) c.split-mine.ensures.kept) in
     let blank = c.requires.sheet in (
       (
         search rules,
@@ -68,8 +68,8 @@ join-done-requires-after_bounds g t c κs within =
                           search rules,
                           search rules,
                           search rules,
-                          ap (λ (k : V). k.desk) c.split-mine.ensures.kept ∙ c.requires.desk,
-                          subst (λ (b : Option Opening). IsSome b) (sym (ap (λ (k : V). k.base) c.split-mine.ensures.kept)) c.requires.base,
+                          ap (λ (k : V g.row.K.Denot). k.desk) c.split-mine.ensures.kept ∙ c.requires.desk,
+                          subst (λ (b : Option (Origin g.row.K.Denot)). IsSome b) (sym (ap (λ (k : V g.row.K.Denot). k.base) c.split-mine.ensures.kept)) c.requires.base,
                           spare,
                           (let f = c.requires.few in omega arith),
                           (blank.0, blank.1, blank.2, (let f = blank.3 in omega arith), (let f = blank.4 in omega arith), (let f = blank.5 in omega arith)),
@@ -84,7 +84,7 @@ join-done-requires-after_bounds g t c κs within =
           ),
         ),
       ),
-      ((ap (λ (k : V). k.desk) c.split-mine.ensures.given ∙ c.requires.desk, subst (λ (b : Option Opening). IsSome b) (sym (ap (λ (k : V). k.base) c.split-mine.ensures.given)) c.requires.base), search rules),
+      ((ap (λ (k : V g.row.K.Denot). k.desk) c.split-mine.ensures.given ∙ c.requires.desk, subst (λ (b : Option (Origin g.row.K.Denot)). IsSome b) (sym (ap (λ (k : V g.row.K.Denot). k.base) c.split-mine.ensures.given)) c.requires.base), search rules),
     )
 
 pub returns-clause-done : goal.returns-clause-done

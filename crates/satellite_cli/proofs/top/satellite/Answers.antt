@@ -1,8 +1,12 @@
-use Rattle.std.proofs.Common.{◌≡◌, inl, inr, refl, rules}
+use Rattle.std.proofs.Common.{inl, inr, rules}
+use Rattle.sat_book.specs.Book.{start_of}
 use Rattle.sat_console.proofs.Once.{settles_once}
 use Rattle.sat_console.proofs.Runs.{judges_through, settles_through}
 use Rattle.sat_init.specs.declared.setup.Setup.{Setup}
-use Rattle.satellite_cli.proofs.Asking.{is_asked}
+use Rattle.satellite_cli.proofs.Asking.{is_asked, same_term}
+use Rattle.satellite_cli.proofs.Ends.{serves_well}
+use Rattle.satellite_cli.proofs.Inits.{inits_well}
+use Rattle.satellite_cli.proofs.top.satellite.Goals.{in-Ok-Settle, in-Ok-Judge, in-Err-Usage}
 use Rattle.satellite_cli.proofs.top.satellite.Goals as goal
 
 pub returns-in-Ok-Init-clause-once : goal.returns-in-Ok-Init-clause-once
@@ -11,6 +15,10 @@ returns-in-Ok-Init-clause-once g c = settles_once
 pub returns-in-Ok-Init-clause-init : goal.returns-in-Ok-Init-clause-init
 returns-in-Ok-Init-clause-init g c = λ store is.
     inl (_, is_asked _ _ _ _ _ _ _ c.args.line.now store (rw c.in-Ok-Init.field-0-is at c.in-Ok-Init.ensures.command) is, c.init_world.ensures.inits)
+
+pub returns-in-Ok-Init-clause-init_complete : goal.returns-in-Ok-Init-clause-init_complete
+returns-in-Ok-Init-clause-init_complete g c = λ store is up told empty no_fault no_words no_cut.
+    inits_well _ _ _ _ _ _ _ _ _ _ _ _ c.init_world.ensures.inits (up, told) empty no_fault no_words no_cut
 
 pub returns-in-Ok-Init-clause-crash : goal.returns-in-Ok-Init-clause-crash
 returns-in-Ok-Init-clause-crash g c =
@@ -23,10 +31,23 @@ returns-in-Ok-Init-clause-crash g c =
       rates = given.rates;
       caps = given.caps;
     } in
-    λ clean m left. elim (c.init_world.ensures.crash clean m left) [
+    λ store is clean m left. elim (c.init_world.ensures.crash clean m left) [
       | inl before ↦ inl before
       | inr made ↦ inr (setup, made.0, made.1)
     ]
+
+pub returns-in-Ok-Serve-clause-once : goal.returns-in-Ok-Serve-clause-once
+returns-in-Ok-Serve-clause-once g c = settles_once
+
+pub returns-in-Ok-Serve-clause-serve : goal.returns-in-Ok-Serve-clause-serve
+returns-in-Ok-Serve-clause-serve g c = λ server is.
+    let same = same_term _ server c.args.line.now (rw c.in-Ok-Serve.field-0-is at c.in-Ok-Serve.ensures.command) is in
+    rw same c.serve_world.ensures.term
+
+pub returns-in-Ok-Serve-clause-serve_complete : goal.returns-in-Ok-Serve-clause-serve_complete
+returns-in-Ok-Serve-clause-serve_complete g c = λ server is up told sound no_fault no_cut none no_full.
+    serves_well g.K.Keeper.faults g.K.Keeper.is_clean g.K.Keeper.is_open g.K.Keeper.tells g.K.Keeper.rows g.K.Keeper.leaves _ (λ b. (start_of b.opening).setup.secret) _ _ _ _ _ _ _ _ _
+    c.serve_world.ensures.closed c.serve_world.ensures.term up told sound no_fault no_cut none no_full
 
 pub returns-in-Err-NoMemory-clause-once : goal.returns-in-Err-NoMemory-clause-once
 returns-in-Err-NoMemory-clause-once g c = settles_once
@@ -36,6 +57,13 @@ returns-clause-settle g c = search rules
 
 pub returns-clause-judge : goal.returns-clause-judge
 returns-clause-judge g c = search rules
+
+pub returns-clause-usage_line : goal.returns-clause-usage_line
+returns-clause-usage_line g c = elim c.match-read_line.branch [
+  | in-Ok-Settle w ↦ search rules
+  | in-Ok-Judge w ↦ search rules
+  | in-Err-Usage w ↦ search rules
+]
 
 pub returns-clause-complete : goal.returns-clause-complete
 returns-clause-complete g c = λ secret cap bytes is told short no_read no_write.

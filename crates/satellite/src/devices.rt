@@ -1,0 +1,105 @@
+// The devices of the program.
+ghost use Rattle.std.specs.Prelude.{◌≡◌, ◌≤◌, length};
+
+use crate::StartErr;
+use sat_base::{Clock as Times, Gate, Keeper, Lane, Line, Link, OpenGate, Words};
+use sat_devices::{MachineWords, SleepTicks, SystemClock, TcpLane};
+use satellite_cli::{Ended, Kit, Post, World, satellite};
+use std::alloc::Global;
+use std::sync::Wait;
+use std::thread::Threads;
+
+type Clock = SystemClock<HostRuntime>;
+
+type Random = MachineWords<HostRuntime>;
+
+/// What the workers of all lanes have.
+pub type Lanes = Vec<Post<TcpLane<HostRuntime>, Clock, Random>>;
+
+// No node is asked yet.
+type RoundKit = Kit<(), Clock, Random, SleepTicks<HostRuntime>>;
+
+fn kit(rt: HostRuntime, tick: u32) -> RoundKit {
+    Kit {
+        nodes: (),
+        clock: SystemClock::new(rt),
+        words: MachineWords::new(rt),
+        ticks: SleepTicks::new(rt, tick),
+    }
+}
+
+/// A lane at each of so many ports of 127.0.0.1.
+pub fn bound(rt: HostRuntime, alloc: Global, port: u16, lanes: u16) -> Result<Lanes, StartErr> {
+    let mut posts = Vec::new(alloc);
+    for number in 0..lanes {
+        let lane = match TcpLane::listen(rt, port.saturating_add(number)) {
+            Ok(lane) => lane,
+            Err(_) => return Err(StartErr::Start),
+        };
+        let post = Post {
+            lane,
+            clock: SystemClock::new(rt),
+            words: MachineWords::new(rt),
+        };
+        if posts.push(post).is_err() {
+            return Err(StartErr::NoMemory);
+        }
+    }
+    Ok(posts)
+}
+
+/// All devices of a run, over a console and a keeper.
+pub type Devices<C, K> = World<
+    C,
+    K,
+    TcpLane<HostRuntime>,
+    (),
+    Clock,
+    Random,
+    SleepTicks<HostRuntime>,
+    OpenGate,
+>;
+
+/// All devices over a console and a keeper.
+pub fn devices<C: Link, K>(
+    rt: HostRuntime,
+    console: C,
+    keeper: K,
+    posts: Lanes,
+    tick: u32,
+) -> Devices<C, K>
+    ensures { result.posts ≡ posts }
+{
+    World {
+        console,
+        keeper,
+        posts,
+        audit: kit(rt, tick),
+        repair: kit(rt, tick),
+        tally: kit(rt, tick),
+        gate: OpenGate::of(),
+    }
+}
+
+/// Runs the command that the words are, over any devices. What `satellite` promises of it isn't handed on, so that it needn't
+/// be worked out for these devices.
+pub fn run<
+    C: Link,
+    K: Keeper + Send,
+    L: Lane,
+    N,
+    T: Times,
+    W: Words,
+    I,
+    G: Gate,
+    R: Threads + Wait + Sync,
+>(
+    rt: &R,
+    alloc: Global,
+    line: &Line,
+    world: World<C, K, L, N, T, W, I, G>,
+) -> Ended<C, K, L, N, T, W, I, G>
+    requires { length world.posts.items ≤ 16 }
+{
+    satellite(rt, alloc, line, world)
+}

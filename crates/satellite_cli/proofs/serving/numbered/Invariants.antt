@@ -1,0 +1,9 @@
+use Rattle.std.proofs.Common.{◌≡◌}
+use Rattle.std.specs.Prelude.{vec_capacity, vec_len}
+use Rattle.satellite_cli.proofs.serving.numbered.Given as goal
+
+abbrev pub invariant-loop-number : goal.invariant-loop-number
+invariant-loop-number l = record {
+  count : vec_len l.numbers ≡ l.number;
+  room : vec_capacity l.numbers ≡ vec_capacity l.fn.numbers;
+}

@@ -1,0 +1,72 @@
+// What is made before the workers of `serve` begin.
+ghost use Rattle.std.specs.Prelude.{◌≡◌, ◌≤◌, ◌+◌, IfOk, IfErr, vec_capacity};
+ghost use Rattle.sat_book.specs.Openings.{Opens};
+ghost use Rattle.sat_console.specs.Run.{code_of};
+ghost use Rattle.sat_term.specs.Crew.{IsBlank};
+ghost use Rattle.satellite_cli.specs.Serving.{NotOpened};
+
+use crate::ending::say_why;
+use sat_base::{Keeper, Link, NoMemory};
+use sat_book::Book;
+use sat_console::{Status, fault};
+use sat_term::Sheet;
+use std::alloc::Global;
+
+/// Room for what is told of a term of so many lanes and three workers of rounds.
+pub(crate) fn sheet_for(alloc: Global, lanes: usize) -> Result<Sheet, NoMemory>
+    requires { lanes ≤ 16 }
+    ensures blank { IfOk result (λ sheet. IsBlank lanes sheet) }
+    ensures room { IfOk result (λ sheet. lanes + 3 ≤ vec_capacity sheet.numbers) }
+{
+    Ok(Sheet {
+        numbers: Vec::with_capacity(alloc, lanes + 3)?,
+        lanes: Vec::with_capacity(alloc, lanes)?,
+        ends: Vec::with_capacity(alloc, lanes)?,
+    })
+}
+
+/// A book, and the room for what is told of its term.
+#[derive(Drop)]
+pub(crate) struct Ready<K: Keeper> {
+    pub book: Book<K>,
+    pub sheet: Sheet,
+}
+
+/// A keeper over which there is no book, and the status that says why.
+#[derive(Drop)]
+pub(crate) struct Closed<K> {
+    pub keeper: K,
+    pub status: Status,
+}
+
+/// Opens a book over a keeper, and makes room for what is told. Where that can't be done it is said why.
+pub(crate) fn open<C: Link, K: Keeper>(
+    alloc: Global,
+    console: &mut C,
+    keeper: K,
+    term: u64,
+    lanes: usize,
+) -> Result<Ready<K>, Closed<K>>
+    requires term { (1 ≤ term) × (term ≤ 65536) }
+    requires few { lanes ≤ 16 }
+    ensures opened { IfOk result (λ r. Opens K.faults K.is_clean K.is_open K.tells K.rows K.leaves keeper term r.book) }
+    ensures blank { IfOk result (λ r. IsBlank lanes r.sheet × (lanes + 3 ≤ vec_capacity r.sheet.numbers)) }
+    ensures quiet { IfOk result (λ r. C.about console.new ≡ C.about console.old) }
+    ensures closed { IfErr result (λ r. NotOpened K.faults K.is_clean K.is_open K.tells K.rows K.leaves
+        keeper r.keeper (code_of r.status) (C.about console.old) (C.about console.new)) }
+{
+    let Ok(sheet) = sheet_for(alloc, lanes) else {
+        let status = fault(console, Status::NoMemory);
+        return Err(Closed { keeper, status });
+    };
+    match Book::open(alloc, keeper, term) {
+        Ok(book) => Ok(Ready { book, sheet }),
+        Err(refused) => {
+            let status = say_why(alloc, console, &refused.why);
+            Err(Closed {
+                keeper: refused.keeper,
+                status,
+            })
+        }
+    }
+}

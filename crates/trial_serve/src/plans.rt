@@ -1,0 +1,100 @@
+// What devices in memory are made of.
+use crate::lane::TrialLane;
+use sat_base::{
+    Change, Committed, HoldGate, Keeper, KeeperMem, Loaded, MemClock, MemConsole, MemLink,
+    MemTicks, MemWords, NoMemory, Row,
+};
+use satellite_cli::{Kit, Post, World};
+use std::alloc::Global;
+
+/// A clock's moments, and random words of which the draws of some numbers fail.
+#[derive(Drop)]
+pub struct Source {
+    pub moments: Vec<u64>,
+    pub words: Vec<u64>,
+    pub failing: Vec<u64>,
+}
+
+impl Source {
+    /// No moments and no words.
+    pub fn new(alloc: Global) -> Self {
+        Source {
+            moments: Vec::new(alloc),
+            words: Vec::new(alloc),
+            failing: Vec::new(alloc),
+        }
+    }
+}
+
+/// A lane, whose waits of some numbers fail.
+#[derive(Drop)]
+pub struct LanePlan {
+    pub links: Vec<MemLink>,
+    pub failing: Vec<u64>,
+    pub source: Source,
+}
+
+/// The devices of a run in memory.
+pub type MemWorld = World<
+    MemConsole,
+    KeeperMem,
+    TrialLane,
+    (),
+    MemClock,
+    MemWords,
+    MemTicks,
+    HoldGate,
+>;
+
+/// What the worker of a lane has.
+pub type MemPost = Post<TrialLane, MemClock, MemWords>;
+
+/// A kit that draws from this source.
+pub fn kit(source: Source) -> Kit<(), MemClock, MemWords, MemTicks> {
+    let Source {
+        moments,
+        words,
+        failing,
+    } = source;
+    Kit {
+        nodes: (),
+        clock: MemClock::of(moments),
+        words: MemWords::of(words, failing),
+        ticks: MemTicks::of(0),
+    }
+}
+
+/// What the worker of this lane has.
+pub fn post(alloc: Global, plan: LanePlan) -> MemPost {
+    let LanePlan {
+        links,
+        failing,
+        source,
+    } = plan;
+    let Source {
+        moments,
+        words,
+        failing: draws,
+    } = source;
+    Post {
+        lane: TrialLane::of(alloc, links, failing),
+        clock: MemClock::of(moments),
+        words: MemWords::of(words, draws),
+    }
+}
+
+/// A keeper of these rows, whose calls of these numbers fail.
+pub fn keeper_of(alloc: Global, rows: Vec<Row>, failing: Vec<u64>) -> Result<KeeperMem, NoMemory> {
+    let mut changes = Vec::new(alloc);
+    for row in rows {
+        changes.push(Change::Put(row))?;
+    }
+    let mut all = KeeperMem::of(Vec::new(alloc), Vec::new(alloc));
+    if all.commit(alloc, &changes) != Committed::Done {
+        return Err(NoMemory);
+    }
+    match all.load(alloc) {
+        Loaded::Rows(rows) => Ok(KeeperMem::of(rows.into_vec(), failing)),
+        Loaded::Fault | Loaded::NoMemory => Err(NoMemory),
+    }
+}

@@ -1,0 +1,299 @@
+// The devices of the next run.
+ghost use Rattle.std.specs.Prelude.{◌≤◌, length};
+
+use crate::plans::{LanePlan, MemWorld, Source, keeper_of, kit, post};
+use crate::telling::{RunTold, told_run};
+use sat_base::{
+    Clock, Gate, HoldGate, Keeper, KeeperMem, Lane, Line, Link, MemConsole, MemLink, NoMemory,
+    Point, Row, Words,
+};
+use satellite_cli::{Ended, World, satellite};
+use std::alloc::Global;
+use std::mem;
+use std::sync::Wait;
+use std::thread::Threads;
+use trial_lines::{Fields, LineErr, bytes_of, row, told_row};
+
+// The most lanes of a run.
+const LANES: usize = 16;
+
+/// What the next run has.
+#[derive(Drop)]
+pub struct Stage {
+    alloc: Global,
+    rows: Vec<Row>,
+    keeper_failing: Vec<u64>,
+    console_failing: Vec<u64>,
+    init: Source,
+    lanes: Vec<LanePlan>,
+    hold: Point,
+    until: Point,
+}
+
+// A point of the gate.
+fn point(word: &str) -> Result<Point, LineErr> {
+    let Some((name, lane)) = word.split_once(':') else {
+        return Err(LineErr::Bad);
+    };
+    let Ok(lane) = lane.parse::<u16>() else {
+        return Err(LineErr::Bad);
+    };
+    match name {
+        "read" => Ok(Point::SessionRead { lane }),
+        "sent" => Ok(Point::SessionSent { lane }),
+        _ => Err(LineErr::Bad),
+    }
+}
+
+// The words of a command.
+fn line_of(alloc: Global, words: &str) -> Result<Line, NoMemory> {
+    let mut line = Line::new(alloc);
+    for word in words.split_ascii_whitespace() {
+        line.push(word)?;
+    }
+    Ok(line)
+}
+
+// Runs the command over any world.
+fn run_over<
+    C: Link,
+    K: Keeper + Send,
+    L: Lane,
+    N,
+    T: Clock,
+    W: Words,
+    I,
+    G: Gate,
+    R: Threads + Wait + Sync,
+>(
+    rt: &R,
+    alloc: Global,
+    line: &Line,
+    world: World<C, K, L, N, T, W, I, G>,
+) -> Ended<C, K, L, N, T, W, I, G>
+    requires { length world.posts.items ≤ 16 }
+{
+    satellite(rt, alloc, line, world)
+}
+
+impl Stage {
+    /// No rows and no lanes.
+    pub fn new(alloc: Global) -> Self {
+        Stage {
+            alloc,
+            rows: Vec::new(alloc),
+            keeper_failing: Vec::new(alloc),
+            console_failing: Vec::new(alloc),
+            init: Source::new(alloc),
+            lanes: Vec::new(alloc),
+            hold: Point::AuditFetch,
+            until: Point::RepairFetch,
+        }
+    }
+
+    /// The answer to a line.
+    pub fn answer<R: Threads + Wait + Sync>(
+        &mut self,
+        rt: &R,
+        line: &str,
+    ) -> Result<String, NoMemory> {
+        if line.is_empty() || line.starts_with('#') {
+            return Ok(String::from_str(self.alloc, line)?);
+        }
+        match self.taken(rt, line) {
+            Ok(answer) => Ok(answer),
+            Err(LineErr::Bad) => Ok(String::from_str(self.alloc, "bad-line")?),
+            Err(LineErr::NoMemory) => Err(NoMemory),
+        }
+    }
+
+    fn taken<R: Threads + Wait + Sync>(&mut self, rt: &R, line: &str) -> Result<String, LineErr> {
+        let mut fields = Fields::of_line(line, 0);
+        match fields.word()? {
+            "run" => self.run(rt, fields.rest()),
+            "rows" => {
+                fields.end()?;
+                self.told_rows()
+            }
+            word => {
+                self.note(word, fields)?;
+                Ok(String::from_str(self.alloc, "noted")?)
+            }
+        }
+    }
+
+    fn note(&mut self, word: &str, mut fields: Fields<'_>) -> Result<(), LineErr> {
+        match word {
+            "store" => {
+                fields.end()?;
+                *self = Stage::new(self.alloc);
+                Ok(())
+            }
+            "row" => {
+                let row = row(self.alloc, &mut fields)?;
+                Ok(self.rows.push(row)?)
+            }
+            "fail" => self.fail(&mut fields),
+            "lane" => self.add_lane(&mut fields),
+            "link" => self.add_link(&mut fields),
+            "links" => self.add_links(&mut fields),
+            "moments" => {
+                let moments = fields.numbers(self.alloc)?;
+                self.source().moments = moments;
+                fields.end()
+            }
+            "words" => self.note_words(&mut fields),
+            "hold" => {
+                self.hold = point(fields.word()?)?;
+                self.until = point(fields.word()?)?;
+                fields.end()
+            }
+            _ => Err(LineErr::Bad),
+        }
+    }
+
+    // What the last lane draws from, or `init`.
+    fn source(&mut self) -> &mut Source {
+        match self.lanes.last_mut() {
+            Some(lane) => &mut lane.source,
+            None => &mut self.init,
+        }
+    }
+
+    // Takes the rows of a keeper.
+    fn keep(&mut self, keeper: KeeperMem) -> Result<(), LineErr> {
+        let mut rows = Vec::new(self.alloc);
+        for row in keeper.rows() {
+            rows.push(Row {
+                kind: row.kind,
+                id: row.id.copy(self.alloc)?,
+                body: row.body.copy(self.alloc)?,
+            })?;
+        }
+        self.rows = rows;
+        Ok(())
+    }
+
+    fn fail(&mut self, fields: &mut Fields<'_>) -> Result<(), LineErr> {
+        let what = fields.word()?;
+        let numbers = fields.numbers(self.alloc)?;
+        match what {
+            "keeper" => self.keeper_failing = numbers,
+            "console" => self.console_failing = numbers,
+            _ => return Err(LineErr::Bad),
+        }
+        fields.end()
+    }
+
+    fn add_lane(&mut self, fields: &mut Fields<'_>) -> Result<(), LineErr> {
+        let failing = fields.numbers(self.alloc)?;
+        fields.end()?;
+        Ok(
+            self.lanes.push(LanePlan {
+                links: Vec::new(self.alloc),
+                failing,
+                source: Source::new(self.alloc),
+            })?,
+        )
+    }
+
+    fn add_link(&mut self, fields: &mut Fields<'_>) -> Result<(), LineErr> {
+        let failing = fields.numbers(self.alloc)?;
+        let input = bytes_of(self.alloc, fields.rest())?;
+        let link = MemLink::of(self.alloc, input, failing);
+        match self.lanes.last_mut() {
+            Some(lane) => Ok(lane.links.push(link)?),
+            None => Err(LineErr::Bad),
+        }
+    }
+
+    fn add_links(&mut self, fields: &mut Fields<'_>) -> Result<(), LineErr> {
+        let count: u64 = fields.number()?;
+        let text = fields.rest();
+        let Some(lane) = self.lanes.last_mut() else {
+            return Err(LineErr::Bad);
+        };
+        for _ in 0..count {
+            let input = bytes_of(self.alloc, text)?;
+            lane.links
+                .push(MemLink::of(self.alloc, input, Vec::new(self.alloc)))?;
+        }
+        Ok(())
+    }
+
+    fn note_words(&mut self, fields: &mut Fields<'_>) -> Result<(), LineErr> {
+        let count: u16 = fields.number()?;
+        let word: u64 = fields.number()?;
+        let failing = fields.numbers(self.alloc)?;
+        fields.end()?;
+        let words = Vec::from_elem(self.alloc, word, usize::from(count))?;
+        let source = self.source();
+        source.words = words;
+        source.failing = failing;
+        Ok(())
+    }
+
+    // The devices of the next run, which the one behind it hasn't.
+    fn world(&mut self) -> Result<MemWorld, LineErr> {
+        let alloc = self.alloc;
+        let Stage {
+            alloc: _,
+            rows,
+            keeper_failing,
+            console_failing,
+            init,
+            lanes,
+            hold,
+            until,
+        } = mem::replace(self, Stage::new(alloc));
+        let mut posts = Vec::new(alloc);
+        for plan in lanes {
+            posts.push(post(alloc, plan))?;
+        }
+        Ok(World {
+            console: MemConsole::of(alloc, Vec::new(alloc), console_failing),
+            keeper: keeper_of(alloc, rows, keeper_failing)?,
+            posts,
+            audit: kit(init),
+            repair: kit(Source::new(alloc)),
+            tally: kit(Source::new(alloc)),
+            gate: HoldGate::of(hold, until),
+        })
+    }
+
+    fn run<R: Threads + Wait + Sync>(&mut self, rt: &R, words: &str) -> Result<String, LineErr> {
+        let line = line_of(self.alloc, words)?;
+        let world = self.world()?;
+        if world.posts.len() > LANES {
+            return Err(LineErr::Bad);
+        }
+        let ended = run_over(rt, self.alloc, &line, world);
+        let Ended {
+            status,
+            world,
+            term,
+        } = ended;
+        let text = told_run(
+            self.alloc,
+            &RunTold {
+                status,
+                console: world.console.written(),
+                posts: &world.posts,
+                late: world.gate.ran_out(),
+            },
+            &term,
+        )?;
+        self.keep(world.keeper)?;
+        Ok(text)
+    }
+
+    fn told_rows(&self) -> Result<String, LineErr> {
+        let count = self.rows.len();
+        let mut text = format!(in self.alloc; "rows {count}")?;
+        for row in &self.rows {
+            text.push_str("\n")?;
+            text.push_str(&told_row(self.alloc, row)?)?;
+        }
+        Ok(text)
+    }
+}

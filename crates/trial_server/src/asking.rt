@@ -1,0 +1,56 @@
+// Requests, as texts.
+use anyhow::Result;
+use order_limits::{Action, Keys, Limit, Order};
+use sat_base::{CustomerId, NodeId, SegId, Serial};
+use std::alloc::Global;
+
+/// The moment of all clocks: 2026-03-01.
+pub const NOW: u64 = 1_772_323_200;
+
+// The secret of the store.
+const SECRET: [u8; 32] = [0; 32];
+
+// A limit's life in seconds.
+const LIFE: u64 = 86_400;
+
+fn post(alloc: Global, path: &str, key: &[u8; 32], body: &str) -> Result<Vec<u8>> {
+    let key = hex::encode(alloc, key)?;
+    let len = body.len();
+    let text = format!(in alloc;
+        "POST {path} HTTP/1.1\r\nx-key: {key}\r\ncontent-length: {len}\r\n\r\n{body}"
+    )?;
+    Ok(Vec::from_slice(alloc, text.as_bytes())?)
+}
+
+/// Adds a node.
+pub fn node(alloc: Global) -> Result<Vec<u8>> {
+    let key = Keys::new(SECRET).operator();
+    let body = r#"{"request":1,"addr":"10.0.1.1","port":7001,"free":1000}"#;
+    post(alloc, "/op/nodes", &key, body)
+}
+
+/// Stops the machine.
+pub fn stop(alloc: Global) -> Result<Vec<u8>> {
+    post(alloc, "/op/stop", &Keys::new(SECRET).operator(), "{}")
+}
+
+/// Settles an order of this serial and amount for the first node.
+pub fn settle(alloc: Global, serial: u64, amount: u64) -> Result<Vec<u8>> {
+    let keys = Keys::new(SECRET);
+    let node = NodeId(1);
+    let limit = Limit {
+        action: Action::Get,
+        serial: Serial(serial),
+        node,
+        segment: SegId(5),
+        index: 3,
+        limit: 1000,
+        issued: NOW,
+        expires: NOW + LIFE,
+        customer: CustomerId(9),
+    };
+    let order = Order { limit, amount }.write(&keys);
+    let digits = hex::encode(alloc, order.as_slice())?;
+    let body = format!(in alloc; "{{\"order\":\"{digits}\"}}")?;
+    post(alloc, "/n/1/settle", &keys.node(node), &body)
+}

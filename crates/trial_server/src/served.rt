@@ -1,0 +1,237 @@
+// Runs over a port.
+ghost use Rattle.std.specs.Prelude.{◌≤◌, length};
+
+use crate::asking::NOW;
+use anyhow::{Result, bail};
+use sat_base::{
+    Clock, Gate, Keeper, Lane, Line, Link, MemClock, MemConsole, MemTicks, MemWords, OpenGate,
+    Words,
+};
+use sat_devices::TcpLane;
+use satellite_cli::{Ended, Kit, Post, World, satellite};
+use std::alloc::Global;
+use std::io::{Read, Write};
+use std::net::{Ipv4Addr, Net, Shutdown, SocketAddr, SocketAddrV4, TcpStream};
+use std::sync::Wait;
+use std::thread::{Threads, join};
+use std::time::Duration;
+use trial_lines::text_of;
+
+// How many seconds a client waits for an answer before it gives up.
+const PATIENCE: u64 = 20;
+
+// The most lanes of a run.
+const LANES: usize = 16;
+
+const INIT: &str = "init --store s --k 2 --m 3 --o 4 --n 6";
+
+const SECRET: &str = "0000000000000000000000000000000000000000000000000000000000000000";
+
+type Ran<K> = Ended<
+    MemConsole,
+    K,
+    TcpLane<HostRuntime>,
+    (),
+    MemClock,
+    MemWords,
+    MemTicks,
+    OpenGate,
+>;
+
+fn line_of(alloc: Global, words: &str) -> Result<Line> {
+    let mut line = Line::new(alloc);
+    for word in words.split_ascii_whitespace() {
+        if line.push(word).is_err() {
+            bail!("out of memory");
+        }
+    }
+    Ok(line)
+}
+
+fn clock(alloc: Global) -> Result<MemClock> {
+    Ok(MemClock::of(vec![in alloc; NOW; 16]?))
+}
+
+fn kit(alloc: Global) -> Result<Kit<(), MemClock, MemWords, MemTicks>> {
+    Ok(Kit {
+        nodes: (),
+        clock: clock(alloc)?,
+        words: MemWords::of(Vec::new(alloc), Vec::new(alloc)),
+        ticks: MemTicks::of(0),
+    })
+}
+
+// Runs the command over any world.
+fn run_over<
+    C: Link,
+    K: Keeper + Send,
+    L: Lane,
+    N,
+    T: Clock,
+    W: Words,
+    I,
+    G: Gate,
+    R: Threads + Wait + Sync,
+>(
+    rt: &R,
+    alloc: Global,
+    line: &Line,
+    world: World<C, K, L, N, T, W, I, G>,
+) -> Ended<C, K, L, N, T, W, I, G>
+    requires { length world.posts.items ≤ 16 }
+{
+    satellite(rt, alloc, line, world)
+}
+
+// Runs a command over a keeper and lanes.
+fn run<K: Keeper + Send, R: Threads + Wait + Sync>(
+    handles: &R,
+    alloc: Global,
+    words: &str,
+    keeper: K,
+    lanes: Vec<TcpLane<HostRuntime>>,
+) -> Result<Ran<K>> {
+    let mut posts = Vec::new(alloc);
+    for lane in lanes {
+        posts.push(Post {
+            lane,
+            clock: clock(alloc)?,
+            words: MemWords::of(Vec::new(alloc), Vec::new(alloc)),
+        })?;
+    }
+    if posts.len() > LANES {
+        bail!("too many lanes");
+    }
+    let world = World {
+        console: MemConsole::of(alloc, Vec::new(alloc), Vec::new(alloc)),
+        keeper,
+        posts,
+        audit: kit(alloc)?,
+        repair: kit(alloc)?,
+        tally: kit(alloc)?,
+        gate: OpenGate::of(),
+    };
+    Ok(run_over(handles, alloc, &line_of(alloc, words)?, world))
+}
+
+fn tell(rt: &HostRuntime, what: &str, bytes: &[u8]) -> Result<()> {
+    let Ok(text) = text_of(rt.alloc(), bytes) else {
+        bail!("out of memory");
+    };
+    println!(rt; "{what} {text}")?;
+    Ok(())
+}
+
+// What is looked at of what a run leaves.
+#[derive(Drop)]
+struct Left<K> {
+    keeper: K,
+    status: u8,
+    console: MemConsole,
+}
+
+fn left_of<K: Keeper>(ran: Ran<K>) -> Left<K> {
+    let Ended {
+        status,
+        world,
+        term: _,
+    } = ran;
+    let World {
+        console,
+        keeper,
+        posts: _,
+        audit: _,
+        repair: _,
+        tally: _,
+        gate: _,
+    } = world;
+    Left {
+        keeper,
+        status,
+        console,
+    }
+}
+
+/// Makes a store in a keeper.
+pub fn make<K: Keeper + Send, R: Threads + Wait + Sync>(
+    rt: &HostRuntime,
+    handles: &R,
+    keeper: K,
+) -> Result<K> {
+    let alloc = rt.alloc();
+    let words = format!(in alloc; "{INIT} --secret {SECRET}")?;
+    let Left {
+        keeper,
+        status,
+        console,
+    } = left_of(run(handles, alloc, &words, keeper, Vec::new(alloc))?);
+    tell(rt, &format!(in alloc; "init {status}")?, console.written())?;
+    Ok(keeper)
+}
+
+// Serves until the lane ends.
+fn serve_lane<K: Keeper + Send, R: Threads + Wait + Sync>(
+    handles: &R,
+    alloc: Global,
+    words: &str,
+    keeper: K,
+    lane: TcpLane<HostRuntime>,
+) -> Option<Left<K>> {
+    let lanes = Vec::from_array(alloc, [lane]).ok()?;
+    let ran = run(handles, alloc, words, keeper, lanes).ok()?;
+    Some(left_of(ran))
+}
+
+// What a port answers to a request.
+fn asked(rt: &HostRuntime, port: u16, request: &[u8]) -> Result<Vec<u8>> {
+    let at = SocketAddr::V4(SocketAddrV4::new(Ipv4Addr::LOCALHOST, port));
+    let stream: TcpStream = rt.connect(at)?;
+    stream.set_read_timeout(Some(Duration::from_secs(PATIENCE)))?;
+    let mut output = &stream;
+    output.write_all(request)?;
+    stream.shutdown(Shutdown::Write)?;
+    let mut input = &stream;
+    let mut bytes = Vec::new(rt.alloc());
+    input.read_to_end(&mut bytes)?;
+    Ok(bytes)
+}
+
+// What it answers to requests, one after another.
+fn asked_all(rt: &HostRuntime, port: u16, requests: &[Vec<u8>]) -> Option<Vec<Vec<u8>>> {
+    let mut answers = Vec::new(rt.alloc());
+    for request in requests {
+        answers.push(asked(rt, port, request).ok()?).ok()?;
+    }
+    Some(answers)
+}
+
+/// Serves a port over a keeper, which a client in another thread asks for all this.
+pub fn serve<K: Keeper + Send, R: Threads + Wait + Sync>(
+    rt: &HostRuntime,
+    handles: &R,
+    words: &str,
+    keeper: K,
+    requests: &[Vec<u8>],
+) -> Result<K> {
+    let alloc = rt.alloc();
+    let lane = TcpLane::listen(*rt, 0)?;
+    let port = lane.port();
+    let (left, answers) = join(
+        handles,
+        move || serve_lane(handles, alloc, words, keeper, lane),
+        move || asked_all(rt, port, requests),
+    );
+    let (Some(left), Some(answers)) = (left, answers) else {
+        bail!("no answer");
+    };
+    for answer in &answers {
+        tell(rt, "answer", answer)?;
+    }
+    let Left {
+        keeper,
+        status,
+        console,
+    } = left;
+    tell(rt, &format!(in alloc; "serve {status}")?, console.written())?;
+    Ok(keeper)
+}
