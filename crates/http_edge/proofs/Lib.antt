@@ -5,7 +5,7 @@ mod FloatLemmas
 mod HeadLaws
 mod HeadLemmas
 mod HeaderLemmas
-mod LengthLemmas
+pub mod LengthLemmas
 mod PathLemmas
 mod ReadingLemmas
 mod RequestLemmas

@@ -6,11 +6,7 @@ ghost use Rattle.http_edge.specs.Headers.{value_named, values_named, is_key};
 use httparse::spans::HeaderSpan;
 
 /// The value of the first header of that name, whatever the case of its letters (RFC 9110, 5.1).
-pub(crate) fn first_named<'b>(
-    buf: &'b [u8],
-    headers: &[HeaderSpan],
-    name: &[u8],
-) -> Option<&'b [u8]>
+pub fn first_named<'b>(buf: &'b [u8], headers: &[HeaderSpan], name: &[u8]) -> Option<&'b [u8]>
     requires { All (IsHeaderWithin (length buf.now)) headers.now }
     ensures { option_map (λ v. v.now) result ≡ value_named name.now (map (header_bytes buf.now) headers.now) }
 {
@@ -23,7 +19,7 @@ pub(crate) fn first_named<'b>(
 }
 
 /// How many headers have that name.
-pub(crate) fn count_named(buf: &[u8], headers: &[HeaderSpan], name: &[u8]) -> usize
+pub fn count_named(buf: &[u8], headers: &[HeaderSpan], name: &[u8]) -> usize
     requires { All (IsHeaderWithin (length buf.now)) headers.now }
     ensures { result ≡ length (values_named name.now (map (header_bytes buf.now) headers.now)) }
 {

@@ -39,6 +39,7 @@ mod wish;
 
 pub use answers::{answer, edge_answer, memory_answer};
 pub use bounds::{MAX_BODY, MAX_HEAD, MAX_LINES};
+pub use headers::{count_named, first_named};
 pub use laws::{addresses_are_dotted, bodies_are_spelled, heads_decide};
 pub use request::read_request;
 pub use sending::{Sent, send};

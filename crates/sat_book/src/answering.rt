@@ -1,7 +1,7 @@
 // One call: its step prepared, written, and finished or forgotten.
-ghost use Rattle.std.specs.Prelude.{◌≡◌, ◌<◌, ℕ, None, slice_index_or};
+ghost use Rattle.std.specs.Prelude.{◌≡◌, ◌<◌, ℕ, [], None, slice_index_or};
 ghost use Rattle.machine_step.specs.Bounds.{Each, IsValid};
-ghost use Rattle.machine_step.specs.Step.{IsWellFormed};
+ghost use Rattle.machine_step.specs.Step.{IsWellFormed, step};
 ghost use Rattle.machine_step.specs.Writable.{IsWritable};
 ghost use Rattle.machine_history.specs.Orders.{HasBytes};
 ghost use Rattle.sat_book.specs.Ids.{AreIds};
@@ -24,7 +24,8 @@ enum Written {
 // Copies the reply of a step, and writes the rows that it changes, if there are any.
 fn write<K: Keeper>(alloc: Global, keeper: &mut K, prepared: &Prepared) -> Written
     requires { Each IsWritable prepared.now.changes.items }
-    ensures { AreWritten K.faults K.is_clean K.is_open K.tells K.rows K.leaves prepared.now keeper.old keeper.new result }
+    ensures written { AreWritten K.faults K.is_clean K.is_open K.tells K.rows K.leaves prepared.now keeper.old keeper.new result }
+    ensures quiet { prepared.now.changes.items ≡ [] → keeper.new ≡ keeper.old }
 {
     let Ok(reply) = prepared.reply.copy(alloc) else {
         return Written::NoMemory;
@@ -103,6 +104,7 @@ pub(crate) fn take_step<K: Keeper>(
     ensures bytes { HasBytes call.now }
     ensures answers { Answers K.faults K.is_clean K.is_open K.tells K.rows K.leaves
         core.old.tables call.now result.told core.new.tables keeper.old keeper.new }
+    ensures quiet { (step core.old.tables call.now).changes ≡ [] → keeper.new ≡ keeper.old }
 {
     read_bytes(call);
     // the tables are valid

@@ -1,7 +1,7 @@
 // The machine over a keeper, with its history.
 ghost use Rattle.std.specs.Prelude.{◌≡◌, ◌≤◌, ◌<◌, ◌++◌, ◌∷◌, [], length, None, IfOk, IfErr, map};
 ghost use Rattle.turnstile.specs.Entry.{entry_of};
-ghost use Rattle.machine_step.specs.Step.{IsWellFormed};
+ghost use Rattle.machine_step.specs.Step.{IsWellFormed, step};
 ghost use Rattle.machine_history.specs.Orders.{SettleOnce};
 ghost use Rattle.sat_book.specs.Book.{Keeps, Spell, start_of};
 ghost use Rattle.sat_book.specs.Kept.{Answers};
@@ -128,6 +128,7 @@ impl<K: Keeper> Book<K> {
         ensures place { result.place ≡ length self.old.history }
         ensures answers { Answers K.faults K.is_clean K.is_open K.tells K.rows K.leaves
             self.old.tables call result.reply self.new.tables self.old.keeper self.new.keeper }
+        ensures quiet { (step self.old.tables call).changes ≡ [] → self.new.keeper ≡ self.old.keeper }
         ensures opening { self.new.opening ≡ self.old.opening }
         ensures first { self.new.first ≡ self.old.first }
         ensures opened { self.new.opened ≡ self.old.opened }

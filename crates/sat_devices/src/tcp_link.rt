@@ -93,7 +93,7 @@ impl<R: Clock + Copy> TcpLink<R> {
 }
 
 // Reads once within a limit.
-fn read_within<R: Clock>(
+pub(crate) fn read_within<R: Clock>(
     rt: &R,
     stream: &TcpStream,
     limit: TimeLimit,
@@ -110,7 +110,7 @@ fn read_within<R: Clock>(
 }
 
 // Writes once within a limit.
-fn write_within<R: Clock>(
+pub(crate) fn write_within<R: Clock>(
     rt: &R,
     stream: &TcpStream,
     limit: TimeLimit,

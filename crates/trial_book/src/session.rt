@@ -1,12 +1,13 @@
 // What is tried: the rows of a store that are noted, and then a book over a keeper of them.
+use crate::founding::{founding_of, told_founding};
 use order_limits::Keys;
-use sat_base::{Change, Committed, Keeper, KeeperMem, Loaded, NoMemory};
+use sat_base::{Change, KeeperMem, NoMemory};
 use sat_book::NotOpened;
 use std::alloc::Global;
 use std::mem;
-use trial_calls::{Record, call, record_of, told};
-use trial_lines::{Fields, LineErr, row, told_row};
-use trial_shelf::{Shelf, row_of, told_open};
+use trial_calls::{call, told};
+use trial_lines::{Fields, LineErr, keeper_of, told_row};
+use trial_shelf::{Shelf, change_of_line, changes_below, keys_of, told_open};
 
 // A book has room for so many entries.
 const TERM: u64 = 1000;
@@ -20,29 +21,6 @@ pub struct Session {
     failing: Vec<u64>,
     keeper: Option<KeeperMem>,
     shelf: Option<Shelf<KeeperMem>>,
-}
-
-// The rows that begin a store stand below this line.
-fn place_of(lines: &[&str], name: &str) -> Option<usize> {
-    lines
-        .iter()
-        .position(|line| line.strip_prefix("store ") == Some(name))
-}
-
-// A keeper of these rows, whose calls of these numbers fail.
-fn keeper_of(
-    alloc: Global,
-    changes: Vec<Change>,
-    failing: Vec<u64>,
-) -> Result<KeeperMem, NoMemory> {
-    let mut all = KeeperMem::of(Vec::new(alloc), Vec::new(alloc));
-    if all.commit(alloc, &changes) != Committed::Done {
-        return Err(NoMemory);
-    }
-    match all.load(alloc) {
-        Loaded::Rows(rows) => Ok(KeeperMem::of(rows.into_vec(), failing)),
-        _ => Err(NoMemory),
-    }
 }
 
 impl Session {
@@ -72,46 +50,56 @@ impl Session {
 
     fn taken(&mut self, lines: &[&str], line: &str) -> Result<String, LineErr> {
         let mut fields = Fields::of_line(line, 0);
-        match fields.word()? {
-            "store" => {
-                self.changes.clear();
-                self.failing.clear();
-                self.keeper = None;
-                self.shelf = None;
-                Ok(String::from_str(self.alloc, line)?)
-            }
+        let word = fields.word()?;
+        if word == "store" {
+            self.changes.clear();
+            self.failing.clear();
+            self.keeper = None;
+            self.shelf = None;
+            return Ok(String::from_str(self.alloc, line)?);
+        }
+        if self.shelf.is_some() {
+            return self.asked(line);
+        }
+        match word {
             "open" => {
                 fields.end()?;
                 self.open()
-            }
-            "close" => {
-                fields.end()?;
-                self.close()
             }
             "rows" => {
                 fields.end()?;
                 self.rows()
             }
-            "like" => self.like(lines, fields.rest()),
-            _ if self.shelf.is_some() => self.asked(line),
+            "init" => self.init(&mut fields),
             _ => {
-                self.note(line)?;
+                self.note(lines, line)?;
                 Ok(String::from_str(self.alloc, "noted")?)
             }
         }
     }
 
-    // A book over the rows that were noted, or over those of the book before.
-    fn open(&mut self) -> Result<String, LineErr> {
-        if self.shelf.is_some() {
-            return Err(LineErr::Bad);
+    // The keeper that is there, or one of the rows that were noted.
+    fn take_keeper(&mut self) -> Result<KeeperMem, NoMemory> {
+        if let Some(keeper) = mem::replace(&mut self.keeper, None) {
+            return Ok(keeper);
         }
-        let changes = mem::replace(&mut self.changes, Vec::new(self.alloc));
         let failing = mem::replace(&mut self.failing, Vec::new(self.alloc));
-        let keeper = match mem::replace(&mut self.keeper, None) {
-            Some(keeper) => keeper,
-            None => keeper_of(self.alloc, changes, failing)?,
-        };
+        keeper_of(self.alloc, &self.changes, failing)
+    }
+
+    // Makes a store over the keeper.
+    fn init(&mut self, fields: &mut Fields<'_>) -> Result<String, LineErr> {
+        let founding = founding_of(self.alloc, fields)?;
+        let mut keeper = self.take_keeper()?;
+        let told = told_founding(self.alloc, &mut keeper, founding)?;
+        self.keeper = Some(keeper);
+        Ok(told)
+    }
+
+    // A book over the keeper.
+    fn open(&mut self) -> Result<String, LineErr> {
+        let keeper = self.take_keeper()?;
+        self.keys = keys_of(self.alloc, keeper.rows())?;
         match Shelf::open(self.alloc, keeper, TERM) {
             Ok(shelf) => {
                 self.shelf = Some(shelf);
@@ -122,15 +110,6 @@ impl Session {
                 Ok(told_open(self.alloc, &why)?)
             }
         }
-    }
-
-    fn close(&mut self) -> Result<String, LineErr> {
-        let Some(shelf) = mem::replace(&mut self.shelf, None) else {
-            return Err(LineErr::Bad);
-        };
-        let (keeper, entries) = shelf.close();
-        self.keeper = Some(keeper);
-        Ok(format!(in self.alloc; "entries {entries}")?)
     }
 
     // The rows of a keeper without a book, a line each.
@@ -148,50 +127,31 @@ impl Session {
         Ok(text)
     }
 
-    // Notes a row, the row of a record, or a call of the keeper that is to fail.
-    fn note(&mut self, line: &str) -> Result<(), LineErr> {
+    // Notes a change of the rows, the rows of an earlier store, or a call of the keeper that is to fail.
+    fn note(&mut self, lines: &[&str], line: &str) -> Result<(), LineErr> {
+        if self.keeper.is_some() {
+            return Err(LineErr::Bad);
+        }
         let mut fields = Fields::of_line(line, 0);
         match fields.word()? {
-            "row" => {
-                let row = row(self.alloc, &mut fields)?;
-                Ok(self.changes.push(Change::Put(row))?)
+            "like" => {
+                self.changes = changes_below(self.alloc, lines, fields.rest())?;
+                Ok(())
             }
             "fail" => {
                 let number = fields.number()?;
                 fields.end()?;
                 Ok(self.failing.push(number)?)
             }
-            _ => self.note_record(line),
+            _ => Ok(self.changes.push(change_of_line(self.alloc, line)?)?),
         }
     }
 
-    fn note_record(&mut self, line: &str) -> Result<(), LineErr> {
-        let record = record_of(self.alloc, &mut Fields::of_line(line, 0))?;
-        if let Record::Settings(settings) = &record {
-            self.keys = Keys::new(settings.secret);
-        }
-        match row_of(self.alloc, &record)? {
-            Some(row) => Ok(self.changes.push(Change::Put(row))?),
-            None => Err(LineErr::Bad),
-        }
-    }
-
-    // Notes the rows of an earlier store, up to a line that is no row.
-    fn like(&mut self, lines: &[&str], name: &str) -> Result<String, LineErr> {
-        let Some(place) = place_of(lines, name) else {
-            return Err(LineErr::Bad);
-        };
-        for line in lines.iter().skip(place).skip(1) {
-            match self.note(line) {
-                Ok(()) => {}
-                Err(LineErr::Bad) => break,
-                Err(LineErr::NoMemory) => return Err(LineErr::NoMemory),
-            }
-        }
-        Ok(String::from_str(self.alloc, "noted")?)
-    }
-
+    // Asks the book, or closes it.
     fn asked(&mut self, line: &str) -> Result<String, LineErr> {
+        if line == "close" {
+            return self.close();
+        }
         let call = call(self.alloc, &self.keys, &mut Fields::of_line(line, 0))?;
         let Some(shelf) = &mut self.shelf else {
             return Err(LineErr::Bad);
@@ -200,5 +160,14 @@ impl Session {
             Some(reply) => Ok(told(self.alloc, &reply)?),
             None => Ok(String::from_str(self.alloc, "full")?),
         }
+    }
+
+    fn close(&mut self) -> Result<String, LineErr> {
+        let Some(shelf) = mem::replace(&mut self.shelf, None) else {
+            return Err(LineErr::Bad);
+        };
+        let (keeper, entries) = shelf.close();
+        self.keeper = Some(keeper);
+        Ok(format!(in self.alloc; "entries {entries}")?)
     }
 }

@@ -12,5 +12,5 @@ mod segments;
 mod telling;
 
 pub use calls::call;
-pub use records::{Record, clear, put_record, record_of};
+pub use records::{Record, caps, clear, put_record, rates, record_of, scheme};
 pub use telling::told;

@@ -102,7 +102,8 @@ fn settings(fields: &mut Fields<'_>) -> Result<Settings, LineErr> {
     })
 }
 
-fn scheme(fields: &mut Fields<'_>) -> Result<Scheme, LineErr> {
+/// K M O N SHARE.
+pub fn scheme(fields: &mut Fields<'_>) -> Result<Scheme, LineErr> {
     let k = fields.number()?;
     let m = fields.number()?;
     let o = fields.number()?;
@@ -111,8 +112,8 @@ fn scheme(fields: &mut Fields<'_>) -> Result<Scheme, LineErr> {
     Scheme::check(k, m, o, n, share).map_err(|_| LineErr::Bad)
 }
 
-// NODES CUSTOMERS SEGMENTS SETTLED TALLIES STATEMENTS.
-fn caps(fields: &mut Fields<'_>) -> Result<Caps, LineErr> {
+/// NODES CUSTOMERS SEGMENTS SETTLED TALLIES STATEMENTS.
+pub fn caps(fields: &mut Fields<'_>) -> Result<Caps, LineErr> {
     Ok(Caps {
         nodes: fields.number()?,
         customers: fields.number()?,
@@ -194,15 +195,20 @@ fn kept(alloc: Global, fields: &mut Fields<'_>) -> Result<Kept, LineErr> {
     })
 }
 
-// FROM GET AUDIT REPAIR STORAGE.
+// FROM, the rates.
 fn tariff(fields: &mut Fields<'_>) -> Result<Tariff, LineErr> {
     Ok(Tariff {
         from: Month(fields.number()?),
-        rates: Rates {
-            get: fields.number()?,
-            audit: fields.number()?,
-            repair: fields.number()?,
-            storage: fields.number()?,
-        },
+        rates: rates(fields)?,
+    })
+}
+
+/// GET AUDIT REPAIR STORAGE.
+pub fn rates(fields: &mut Fields<'_>) -> Result<Rates, LineErr> {
+    Ok(Rates {
+        get: fields.number()?,
+        audit: fields.number()?,
+        repair: fields.number()?,
+        storage: fields.number()?,
     })
 }

@@ -1,7 +1,7 @@
 // Replies in words. A record's fields follow in their order.
 use crate::refusals::told_refusal;
 use machine_calls::Reply;
-use sat_base::{Done, NoMemory, Offer};
+use sat_base::{Done, NoMemory, Offer, Place};
 use std::alloc::Global;
 
 /// What a call was answered.
@@ -42,7 +42,7 @@ fn told_done(alloc: Global, done: &Done) -> Result<String, NoMemory> {
     })
 }
 
-// The places are counted.
+// Its fields, and the places.
 fn told_offer(alloc: Global, offer: &Offer) -> Result<String, NoMemory> {
     let customer = offer.customer.0;
     let segment = offer.segment.0;
@@ -50,8 +50,25 @@ fn told_offer(alloc: Global, offer: &Offer) -> Result<String, NoMemory> {
     let action = offer.action;
     let piece_len = offer.piece_len;
     let issued = offer.issued.seconds();
-    let places = offer.places.len();
-    Ok(format!(in alloc;
-        "offer {customer} {segment} {serial} {action} {piece_len} {issued} places {places}"
-    )?)
+    let mut told = format!(in alloc;
+        "offer {customer} {segment} {serial} {action} {piece_len} {issued} "
+    )?;
+    put_places(alloc, &mut told, offer.places.as_slice())?;
+    Ok(told)
+}
+
+// Each is INDEX:NODE:ADDR:PORT, and `-` is none.
+fn put_places(alloc: Global, out: &mut String, places: &[Place]) -> Result<(), NoMemory> {
+    if places.is_empty() {
+        out.push_str("-")?;
+    }
+    for (i, place) in places.iter().enumerate() {
+        let index = place.index;
+        let node = place.node.0;
+        let addr = place.addr;
+        let port = place.port;
+        let between = if i == 0 { "" } else { "," };
+        out.push_str(&format!(in alloc; "{between}{index}:{node}:{addr}:{port}")?)?;
+    }
+    Ok(())
 }

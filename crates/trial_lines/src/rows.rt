@@ -1,6 +1,6 @@
 // Rows, one a line: the kind in decimal digits, and the id and the body in hexadecimal ones.
 use crate::fields::{Fields, LineErr};
-use sat_base::{Bytes, Items, NoMemory, Row};
+use sat_base::{Bytes, Change, Items, NoMemory, Row};
 use std::alloc::Global;
 
 // The next word, as bytes in hexadecimal digits. `-` is none.
@@ -20,6 +20,14 @@ pub fn row(alloc: Global, fields: &mut Fields<'_>) -> Result<Row, LineErr> {
     let body = bytes(alloc, fields)?;
     fields.end()?;
     Ok(Row { kind, id, body })
+}
+
+/// The removal of the row of `KIND ID`.
+pub fn removal(alloc: Global, fields: &mut Fields<'_>) -> Result<Change, LineErr> {
+    let kind = fields.number()?;
+    let id = bytes(alloc, fields)?;
+    fields.end()?;
+    Ok(Change::Remove { kind, id })
 }
 
 fn put_bytes(alloc: Global, out: &mut String, bytes: &Bytes) -> Result<(), NoMemory> {

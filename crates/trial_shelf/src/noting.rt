@@ -1,13 +1,33 @@
-// Records as rows.
-use record_rows::{
-    write_customer, write_marks, write_node, write_segment, write_settings, write_settled,
-    write_tariff,
-};
-use sat_base::{NoMemory, Row};
-use std::alloc::Global;
-use trial_calls::Record;
+// The rows of a store, by lines.
+ghost use Rattle.std.specs.Prelude.{IsTrue};
+ghost use Rattle.sat_base.specs.Limits.{IsKeptWithin};
 
-/// The row of a record, but not of a kept request, nor of a segment with too many pieces for a row.
+use order_limits::Keys;
+use record_rows::{
+    Rec, RowErr, read, upgrade, write_customer, write_kept, write_marks, write_node, write_segment,
+    write_settings, write_settled, write_tariff,
+};
+use sat_base::{Asked, Change, Done, Kept, NoMemory, Row, kinds};
+use std::alloc::Global;
+use trial_calls::{Record, record_of};
+use trial_lines::{Fields, LineErr, removal, row};
+
+// Whether the lists of a kept request fit a row.
+fn is_short(kept: &Kept) -> bool
+    ensures { IsTrue result → IsKeptWithin kept.now }
+{
+    let asked = match &kept.asked {
+        Asked::Commit { indexes, .. } => indexes.len() <= 128,
+        _ => true,
+    };
+    let done = match &kept.done {
+        Done::Offer(offer) => offer.places.len() <= 128,
+        _ => true,
+    };
+    asked && done
+}
+
+/// The row of a record, but not of one with more items in a list than a row has.
 pub fn row_of(alloc: Global, record: &Record) -> Result<Option<Row>, NoMemory> {
     Ok(Some(match record {
         Record::Settings(one) => write_settings(alloc, one)?,
@@ -16,7 +36,64 @@ pub fn row_of(alloc: Global, record: &Record) -> Result<Option<Row>, NoMemory> {
         Record::Customer(one) => write_customer(alloc, one)?,
         Record::Segment(one) if one.pieces.len() <= 128 => write_segment(alloc, one)?,
         Record::Settled(one) => write_settled(alloc, one)?,
+        Record::Kept(one) if is_short(one) => write_kept(alloc, one)?,
         Record::Tariff(one) => write_tariff(alloc, one)?,
         _ => return Ok(None),
     }))
+}
+
+/// The change of a store's rows that a line says: `row KIND ID BODY` or a record by its fields puts a row, and
+/// `without KIND ID` takes one away.
+pub fn change_of_line(alloc: Global, line: &str) -> Result<Change, LineErr> {
+    let mut fields = Fields::of_line(line, 0);
+    match fields.word()? {
+        "row" => Ok(Change::Put(row(alloc, &mut fields)?)),
+        "without" => removal(alloc, &mut fields),
+        _ => {
+            let record = record_of(alloc, &mut Fields::of_line(line, 0))?;
+            let row = row_of(alloc, &record)?.ok_or(LineErr::Bad)?;
+            Ok(Change::Put(row))
+        }
+    }
+}
+
+/// The changes that stand below the line `store NAME`, up to a line that says none.
+pub fn changes_below(alloc: Global, lines: &[&str], name: &str) -> Result<Vec<Change>, LineErr> {
+    let Some(place) = lines
+        .iter()
+        .position(|line| line.strip_prefix("store ") == Some(name))
+    else {
+        return Err(LineErr::Bad);
+    };
+    let mut changes = Vec::new(alloc);
+    for line in lines.iter().skip(place).skip(1) {
+        match change_of_line(alloc, line) {
+            Ok(change) => changes.push(change)?,
+            Err(LineErr::Bad) => break,
+            Err(LineErr::NoMemory) => return Err(LineErr::NoMemory),
+        }
+    }
+    Ok(changes)
+}
+
+// The secret in the settings of a row, of either version.
+fn secret_of(alloc: Global, row: &Row) -> Result<Option<[u8; 32]>, NoMemory> {
+    if let Some(two) = upgrade(alloc, row)? {
+        return Ok(Some(two.settings.secret));
+    }
+    match read(alloc, row) {
+        Ok(Rec::Settings(settings)) => Ok(Some(settings.secret)),
+        Err(RowErr::NoMemory) => Err(NoMemory),
+        _ => Ok(None),
+    }
+}
+
+/// The keys of a store of these rows: those of a secret of zeros where there are no settings.
+pub fn keys_of(alloc: Global, rows: &[Row]) -> Result<Keys, NoMemory> {
+    for row in rows {
+        if row.kind == kinds::SETTINGS {
+            return Ok(Keys::new(secret_of(alloc, row)?.unwrap_or([0; 32])));
+        }
+    }
+    Ok(Keys::new([0; 32]))
 }

@@ -1,0 +1,4 @@
+mod CountLemmas
+mod PartLemmas
+mod RoundLemmas
+mod Zips

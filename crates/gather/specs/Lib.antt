@@ -1,0 +1,4 @@
+pub mod Asks
+pub mod Counting
+pub mod Gathered
+pub mod Rounds

@@ -1,0 +1,5 @@
+pub mod AnswerLemmas
+mod HeadLemmas
+pub mod HeardLaws
+mod LengthLemmas
+mod ReadingLemmas

@@ -1,0 +1,89 @@
+// Futures that count their polls, and are ready at one of them.
+use futures::Future;
+use futures::task::{Context, Poll};
+use gather::block_on_all;
+use std::cell::Cell;
+use std::test::Fail;
+
+#[derive(Drop)]
+struct Nth<'a> {
+    left: u32,
+    polls: &'a Cell<u32>,
+    output: char,
+}
+
+impl Future for Nth<'_> {
+    type Output = char;
+
+    fn poll(&mut self, cx: &mut Context<'_>) -> Poll<char> {
+        self.polls.set(self.polls.get().saturating_add(1));
+        if self.left <= 1 {
+            return Poll::Ready(self.output);
+        }
+        self.left -= 1;
+        cx.yield_now()
+    }
+}
+
+#[test]
+fn each_part_is_polled_until_it_is_ready(rt: HostRuntime) -> Result<(), Fail> {
+    let counts = [Cell::new(0), Cell::new(0), Cell::new(0)];
+    let parts = vec![in rt.alloc();
+        Nth {
+            left: 3,
+            polls: &counts[0],
+            output: 'A'
+        },
+        Nth {
+            left: 1,
+            polls: &counts[1],
+            output: 'B'
+        },
+        Nth {
+            left: 2,
+            polls: &counts[2],
+            output: 'C'
+        },
+    ]?;
+    let outs = block_on_all(&rt, parts)?;
+    assert_eq!(rt; outs.as_slice(), ['A', 'B', 'C'].as_slice());
+    assert_eq!(rt; counts[0].get(), 3);
+    assert_eq!(rt; counts[1].get(), 1);
+    assert_eq!(rt; counts[2].get(), 2);
+    Ok(())
+}
+
+#[test]
+fn no_parts_give_no_outputs(rt: HostRuntime) -> Result<(), Fail> {
+    let parts: Vec<Nth<'_>> = Vec::new(rt.alloc());
+    assert!(rt; block_on_all(&rt, parts)?.is_empty());
+    Ok(())
+}
+
+#[test]
+fn outputs_stand_in_asking_order(rt: HostRuntime) -> Result<(), Fail> {
+    for (first, second, third) in [(1, 2, 3), (3, 2, 1), (2, 3, 1), (3, 1, 2), (2, 2, 2)] {
+        let count = Cell::new(0);
+        let parts = vec![in rt.alloc();
+            Nth {
+                left: first,
+                polls: &count,
+                output: 'A'
+            },
+            Nth {
+                left: second,
+                polls: &count,
+                output: 'B'
+            },
+            Nth {
+                left: third,
+                polls: &count,
+                output: 'C'
+            },
+        ]?;
+        let outs = block_on_all(&rt, parts)?;
+        assert_eq!(rt; outs.as_slice(), ['A', 'B', 'C'].as_slice());
+        assert_eq!(rt; count.get(), 6);
+    }
+    Ok(())
+}

@@ -1,0 +1,18 @@
+//! Cases of asking storage nodes: gathers, readings, and asks over loopback, by `gather` and by `sat_devices`. The nodes
+//! of the cases are listeners in threads of their own, at ports that the system picks.
+//!
+//! Expected values are those of the formats, by hand.
+#![tactic(auto)]
+
+#[cfg(test)]
+mod gathers;
+#[cfg(test)]
+mod links;
+#[cfg(test)]
+mod node;
+#[cfg(test)]
+mod nodes;
+#[cfg(test)]
+mod readings;
+#[cfg(test)]
+mod requests;

@@ -1,0 +1,104 @@
+// Nodes of the cases: listeners that read one request each, and answer as they are told.
+use sat_base::{Ask, NodeId, SegId};
+use std::io;
+use std::io::{Read, Write};
+use std::net::{Ipv4Addr, Net, SocketAddr, TcpListener, TcpStream};
+use std::sync::atomic::{AtomicU32, Ordering};
+
+/// How a node writes its answer.
+#[derive(Clone, Copy)]
+pub enum Manner {
+    /// At once.
+    Says,
+    /// A byte a write.
+    Spells,
+}
+
+// How often a mark is looked at.
+const LOOKS: u64 = 1 << 28;
+
+// The most bytes of a request.
+const MOST: usize = 4096;
+
+/// A listener at a free port of this machine, and the port.
+pub fn listen<N>(rt: &N) -> io::Result<(TcpListener, u16)>
+where
+    N: Net<Listener = TcpListener, Stream = TcpStream>,
+{
+    let listener = TcpListener::bind(rt, SocketAddr::from((Ipv4Addr::LOCALHOST, 0)))?;
+    let port = listener.local_addr()?.port();
+    Ok((listener, port))
+}
+
+/// An ask to a port of this machine, for so many bytes of a piece of segment 5.
+pub fn ask_at(port: u16, index: u8, len: u64) -> Ask {
+    Ask {
+        node: NodeId(1),
+        addr: 0x7f00_0001,
+        port,
+        segment: SegId(5),
+        index,
+        offset: 0,
+        len,
+        order: [7; 123],
+    }
+}
+
+// Reads a request's head, and its body where it has one of so many bytes.
+fn read_request(socket: &mut TcpStream, body: usize) -> io::Result<()> {
+    let mut last = [0u8; 4];
+    for _ in 0..MOST {
+        let mut byte = [0u8; 1];
+        socket.read_exact(&mut byte)?;
+        last = [last[1], last[2], last[3], byte[0]];
+        if last == *b"\r\n\r\n" {
+            break;
+        }
+    }
+    for _ in 0..body {
+        socket.read_exact(&mut [0u8; 1])?;
+    }
+    Ok(())
+}
+
+/// Serves one connection, whose request has a body of so many bytes, with an answer of this text, and closes it.
+pub fn serve(listener: &TcpListener, body: usize, manner: Manner, text: &[u8]) -> io::Result<()> {
+    let (mut socket, _) = listener.accept()?;
+    read_request(&mut socket, body)?;
+    match manner {
+        Manner::Says => socket.write_all(text),
+        Manner::Spells => {
+            for byte in text {
+                socket.write_all(&[*byte])?;
+            }
+            Ok(())
+        }
+    }
+}
+
+/// Serves one connection. Sets a mark once the request was read, and answers once the other mark is set. True if it was.
+pub fn follow(
+    listener: &TcpListener,
+    text: &[u8],
+    mine: &AtomicU32,
+    other: &AtomicU32,
+) -> io::Result<bool> {
+    let (mut socket, _) = listener.accept()?;
+    read_request(&mut socket, 0)?;
+    mine.store(1, Ordering::SeqCst);
+    if !comes(other) {
+        return Ok(false);
+    }
+    socket.write_all(text)?;
+    Ok(true)
+}
+
+// Whether a mark is set before it was looked at so often.
+fn comes(mark: &AtomicU32) -> bool {
+    for _ in 0..LOOKS {
+        if mark.load(Ordering::SeqCst) != 0 {
+            return true;
+        }
+    }
+    false
+}
