@@ -1,0 +1,4 @@
+pub mod AskLemmas
+pub mod EndingLemmas
+pub mod RemakeLemmas
+pub mod SpreadLemmas

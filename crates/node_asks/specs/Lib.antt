@@ -1,0 +1,6 @@
+pub mod Asks
+pub mod Answers
+pub mod Hearing
+pub mod Remaking
+pub mod Spreading
+pub mod Ending
