@@ -94,17 +94,36 @@ SOUND = [
     (TARIFF, *tariff(MONTH + 1)),
 ]
 
-# a good row of each kind that no call makes yet, and the rule that it breaks
-PLAN = be(8, 1, 1, 1, 1, NOW)
-UNMADE = {
-    TALLY: (6, be(8, 1) + be(4, 1), be(8, 1)),
-    STATEMENT: (7, be(4, MONTH, 1), be(4, 1) + be(1, 75) + bytes(16 * 13)),
-    AUDIT: (8, b"", be(8, 1, 1, 1, 0, 1, NOW) + places(ALL[:2])),
-    RECHECK: (8, b"", be(8, 1, 1, NOW) + be(4, 1) + be(8, 1) + be(1, 0) + be(8, 0) + bytes(32)),
-    REPAIR: (8, b"", PLAN + be(8, 100) + places(ALL[:2]) + places(ALL[2:3])),
-    CONTAINMENT: (9, be(4, 1), be(8, 1) + be(1, 0) + be(8, 0) + bytes(32) + be(1, 0)),
-    EXIT: (11, b"", be(1, 0) + be(4, 1) + PLAN + be(8, 100) + places(ALL[:2]) + places(ALL[2:3])),
-    LEFT: (12, be(4, 1), be(8, NOW)),
+def audit(plan=1, segment=1, version=1, stripe=0, serial=1, issued=NOW, asked=ALL[:2]):
+    return b"", be(8, plan, segment, version, stripe, serial, issued) + places(asked)
+
+
+def recheck(plan=1, serial=1, issued=NOW, node=1, segment=1):
+    return b"", be(8, plan, serial, issued) + be(4, node) + be(8, segment) + be(1, 0) + be(8, 0) + bytes(32)
+
+
+def repair(plan=1, segment=1, version=1, serial=1, issued=NOW, length=100, sources=ALL[:2], targets=ALL[2:3]):
+    return b"", be(8, plan, segment, version, serial, issued, length) + places(sources) + places(targets)
+
+
+def leave(leaving=(0, 1), targets=((0, 3),), **others):
+    return b"", be(1, leaving[0]) + be(4, leaving[1]) + repair(targets=list(targets), **others)[1]
+
+
+def contained(node=1, segment=1, index=0, stripe=0, tries=0):
+    return be(4, node), be(8, segment) + be(1, index) + be(8, stripe) + bytes(32) + be(1, tries)
+
+
+# a good row of each other kind; of tallies and statements, which no call makes yet, each breaks its rule
+OTHERS = {
+    TALLY: (be(8, 1) + be(4, 1), be(8, 1)),
+    STATEMENT: (be(4, MONTH, 1), be(4, 1) + be(1, 75) + bytes(16 * 13)),
+    AUDIT: audit(),
+    RECHECK: recheck(),
+    REPAIR: repair(),
+    CONTAINMENT: contained(),
+    EXIT: leave(),
+    LEFT: (be(4, 1), be(8, NOW)),
 }
 
 
@@ -153,7 +172,7 @@ def line_of(row):
 def of_lengths(cases):
     cases.say("# A row of each kind: the body a byte short, a byte long and empty, and another id")
     for kind in range(1, 17):
-        identity, body = next(((i, b) for k, i, b in SOUND if k == kind), UNMADE.get(kind, ("", "", ""))[1:])
+        identity, body = next(((i, b) for k, i, b in SOUND if k == kind), OTHERS.get(kind, ("", "")))
         for changed in (body[:-1], body + b"\0", b""):
             cases.bad((kind, identity, changed))
         cases.bad((kind, identity + b"\0", body))
@@ -214,6 +233,51 @@ def of_kinds(cases):
     cases.bad((17, b"", b""), (CUSTOMER, *customer(9)))
 
 
+def of_plans(cases):
+    cases.store("open", *((kind, *OTHERS[kind]) for kind in (AUDIT, RECHECK, REPAIR, CONTAINMENT, EXIT)))
+    # what was drawn, the version, the stripe, and the pieces; of a segment that is gone, and of a later version, the first alone
+    drawn = {"plan": 2}, {"serial": 4}, {"segment": 3}, {"issued": NOW + 1}
+    for wrong in (*drawn, {"version": 0}, {"version": 2}, {"stripe": 4}, {"asked": ALL[2:3]}, {"asked": [(1, 1)]}):
+        cases.broken(8, AUDIT, b"", (AUDIT, *audit(**wrong)))
+    cases.store("open", (SEGMENT, be(8, 1)), (AUDIT, *audit(stripe=9)))
+    for wrong in (*drawn, {"node": 7}):
+        cases.broken(8, RECHECK, b"", (RECHECK, *recheck(**wrong)))
+    for wrong in (
+        *drawn,
+        {"length": 99},
+        {"sources": ALL[:1]},
+        {"sources": ALL[2:4]},
+        {"targets": []},
+        {"targets": ALL[1:2]},
+        {"targets": [(6, 3)]},
+        {"targets": [(2, 7)]},
+        {"targets": [(2, 3), (3, 3)]},
+    ):
+        cases.broken(8, REPAIR, b"", (REPAIR, *repair(**wrong)))
+    cases.broken(8, AUDIT, b"", (AUDIT, *audit(plan=2)), (REPAIR, *repair(plan=2)))
+    for wrong in ({"segment": 2}, {"index": 1}, {"stripe": 4}, {"tries": 3}):
+        cases.broken(9, CONTAINMENT, be(4, 1), (CONTAINMENT, *contained(**wrong)))
+    cases.broken(9, CONTAINMENT, be(4, 1), (NODE, *node(1, status=1)), (CONTAINMENT, *contained()))
+    cases.broken(9, CONTAINMENT, be(4, 2), (CONTAINMENT, *contained()), (CONTAINMENT, *contained(2)), (CONTAINMENT, *contained(3)))
+    for wrong in (
+        *drawn,
+        {"leaving": (2, 3)},
+        {"sources": ALL[:1]},
+        {"sources": [(0, 1), (1, 7)]},
+        {"targets": []},
+        {"targets": [(1, 3)]},
+        {"targets": [(0, 7)]},
+        {"targets": [(0, 2)]},
+        {"targets": [(0, 3), (1, 4)]},
+    ):
+        cases.broken(11, EXIT, b"", (EXIT, *leave(**wrong)))
+    cases.broken(12, LEFT, be(4, 1), (LEFT, *OTHERS[LEFT]))
+    cases.broken(12, LEFT, be(4, 5), (NODE, *node(5, status=3)))
+    cases.broken(12, LEFT, be(4, 5), (NODE, *node(5, status=3)), (NODE, *node(6, status=3)), (LEFT, be(4, 6), be(8, NOW)))
+    cases.broken(12, LEFT, be(4, 5), (NODE, *node(5, status=3)), (LEFT, be(4, 5), be(8, NOW + 1)))
+    cases.store("open", (NODE, *node(5, status=3)), (LEFT, be(4, 5), be(8, NOW)))
+
+
 def of_rules(cases):
     cases.say("# Rules: a record that breaks one, the first of two that do, a missing one; and the least rule of two")
     cases.broken(1, SETTINGS, b"", (SETTINGS, b""))
@@ -250,8 +314,9 @@ def of_rules(cases):
     cases.broken(5, SETTLED, be(8, 1) + be(4, 7), (SETTLED, *settled(1, 7)), (SETTLED, *settled(2, 9)))
     cases.broken(5, SETTLED, be(8, 2) + be(4, 1), (SETTLED, *settled(2, 1, at=NOW + 1)))
     cases.broken(5, SETTLED, be(8, 1) + be(4, 2), (SETTINGS, *settings(caps=(100, 100, 100, 1, 1, 1))))
-    for kind, (rule, identity, body) in UNMADE.items():
-        cases.broken(rule, kind, identity, (kind, identity, body))
+    cases.broken(6, TALLY, OTHERS[TALLY][0], (TALLY, *OTHERS[TALLY]))
+    cases.broken(7, STATEMENT, OTHERS[STATEMENT][0], (STATEMENT, *OTHERS[STATEMENT]))
+    of_plans(cases)
     for caller, asked, done in (
         (0, DELETED, GONE),
         (1, be(1, 2), be(1, 2) + be(4, 2)),
@@ -269,7 +334,7 @@ def of_rules(cases):
     cases.broken(13, TARIFF, be(4, MONTH), (TARIFF, be(4, MONTH)))
     cases.broken(13, TARIFF, be(4, MONTH - 1), (TARIFF, *tariff(MONTH - 1)))
     cases.broken(3, CUSTOMER, be(4, 2), (CUSTOMER, be(4, 1)), (TARIFF, be(4, MONTH)))
-    cases.broken(5, SETTLED, be(8, 1) + be(4, 7), (SETTLED, *settled(1, 7)), (LEFT, *UNMADE[LEFT][1:]))
+    cases.broken(5, SETTLED, be(8, 1) + be(4, 7), (SETTLED, *settled(1, 7)), (LEFT, *OTHERS[LEFT]))
 
 
 def main():

@@ -1,9 +1,13 @@
 // Calls of each kind, each timed by itself.
+ghost use Rattle.machine_step.specs.Step.{IsWellFormed};
+
 use crate::made::{AMOUNT, LEN, Size, customer_of, node_of, now, serial_at};
+use crate::{fold, upkeep};
 use anyhow::{Result, bail};
+use audit_core::Checked;
 use order_limits::{Action, Keys, Limit, Order, read_order};
 use sat_base::{Items, NodeId, SegId, Serial};
-use sat_machine::{Call, Reply};
+use sat_machine::Call;
 use std::alloc::Global;
 use std::time::{Clock, Instant};
 use trial_core::Trial;
@@ -18,6 +22,12 @@ pub(crate) enum Kind {
     Get,
     Begin,
     Delete,
+    SetFree,
+    PlanAudit,
+    PlanRepair,
+    PlanExit,
+    /// To plan a recheck, and to end it with a pass.
+    Recheck,
 }
 
 impl Kind {
@@ -29,6 +39,11 @@ impl Kind {
             Kind::Get => "get",
             Kind::Begin => "begin",
             Kind::Delete => "delete",
+            Kind::SetFree => "set_free",
+            Kind::PlanAudit => "plan_audit",
+            Kind::PlanRepair => "plan_repair",
+            Kind::PlanExit => "plan_exit",
+            Kind::Recheck => "recheck",
         }
     }
 }
@@ -60,8 +75,8 @@ fn order(keys: &Keys, serial: u64, node: NodeId) -> [u8; 123] {
     order.write(keys)
 }
 
-// Random words (Knuth's MMIX).
-fn random_words(seed: u64) -> [u64; 128] {
+/// Random words (Knuth's MMIX).
+pub(crate) fn random_words(seed: u64) -> [u64; 128] {
     let mut words = [0; 128];
     let mut state = seed;
     for word in words.iter_mut() {
@@ -73,11 +88,26 @@ fn random_words(seed: u64) -> [u64; 128] {
     words
 }
 
-/// What a call was answered, and how many nanoseconds that took.
-#[derive(Drop)]
+/// Whether a call did what it asked, the check sum of its reply, and how many nanoseconds it took.
+#[derive(Clone, Copy)]
 pub(crate) struct Answer {
-    pub reply: Reply,
+    pub accepted: bool,
+    pub sum: u64,
     pub spent: u128,
+}
+
+/// Asks a call.
+pub(crate) fn timed(clock: &impl Clock, trial: &mut Trial, call: Call) -> Result<Answer>
+    requires { IsWellFormed trial.old call }
+{
+    let start = Instant::now(clock)?;
+    let reply = trial.take(call)?;
+    let spent = start.elapsed(clock)?.as_nanos();
+    Ok(Answer {
+        accepted: fold::is_accepted(&reply),
+        sum: fold::reply(fold::EMPTY, &reply),
+        spent,
+    })
 }
 
 fn settle(
@@ -85,19 +115,16 @@ fn settle(
     alloc: Global,
     keys: &Keys,
     trial: &mut Trial,
+    node: NodeId,
     serial: u64,
 ) -> Result<Answer> {
-    let node = node_of(serial);
     let bytes = Vec::from_slice(alloc, &order(keys, serial, node))?;
     let call = Call::Settle {
         now: now(),
         node,
         bytes: Items::of(bytes),
     };
-    let start = Instant::now(clock)?;
-    let reply = trial.ask(&call)?;
-    let spent = start.elapsed(clock)?.as_nanos();
-    Ok(Answer { reply, spent })
+    timed(clock, trial, call)
 }
 
 fn get(clock: &impl Clock, trial: &mut Trial, request: u64, segment: u64) -> Result<Answer> {
@@ -107,10 +134,7 @@ fn get(clock: &impl Clock, trial: &mut Trial, request: u64, segment: u64) -> Res
         request,
         segment: SegId(segment),
     };
-    let start = Instant::now(clock)?;
-    let reply = trial.ask(&call)?;
-    let spent = start.elapsed(clock)?.as_nanos();
-    Ok(Answer { reply, spent })
+    timed(clock, trial, call)
 }
 
 fn begin(clock: &impl Clock, alloc: Global, trial: &mut Trial, request: u64) -> Result<Answer> {
@@ -122,10 +146,7 @@ fn begin(clock: &impl Clock, alloc: Global, trial: &mut Trial, request: u64) -> 
         len: LEN,
         words: Items::of(words),
     };
-    let start = Instant::now(clock)?;
-    let reply = trial.ask(&call)?;
-    let spent = start.elapsed(clock)?.as_nanos();
-    Ok(Answer { reply, spent })
+    timed(clock, trial, call)
 }
 
 fn delete(clock: &impl Clock, trial: &mut Trial, request: u64, segment: u64) -> Result<Answer> {
@@ -135,10 +156,7 @@ fn delete(clock: &impl Clock, trial: &mut Trial, request: u64, segment: u64) -> 
         request,
         segment: SegId(segment),
     };
-    let start = Instant::now(clock)?;
-    let reply = trial.ask(&call)?;
-    let spent = start.elapsed(clock)?.as_nanos();
-    Ok(Answer { reply, spent })
+    timed(clock, trial, call)
 }
 
 /// Asks the call of a kind that has this number, from 0 on. The requests of later kinds have greater numbers.
@@ -155,11 +173,11 @@ pub(crate) fn ask(
     match kind {
         Kind::SettleAbove => {
             let serial = serial_at(size.rows.saturating_add(number));
-            settle(clock, alloc, keys, trial, serial)
+            settle(clock, alloc, keys, trial, node_of(size, serial), serial)
         }
         Kind::SettleAmong => {
             let serial = serial_at(spread(number, size, size.rows)).saturating_add(1);
-            settle(clock, alloc, keys, trial, serial)
+            settle(clock, alloc, keys, trial, node_of(size, serial), serial)
         }
         Kind::Get => {
             let segment = spread(number, size, size.segments).saturating_add(1);
@@ -174,12 +192,17 @@ pub(crate) fn ask(
             let request = request.saturating_add(size.calls.saturating_mul(2));
             delete(clock, trial, request, segment)
         }
+        Kind::SetFree => upkeep::set_free(clock, trial, node_of(size, number), number),
+        Kind::PlanAudit => upkeep::plan_audit(clock, alloc, trial, number),
+        Kind::PlanRepair => upkeep::plan_repair(clock, alloc, trial, number),
+        Kind::PlanExit => upkeep::plan_exit(clock, alloc, trial, number),
+        Kind::Recheck => upkeep::recheck(clock, trial, Checked::Pass),
     }
 }
 
 /// How many nanoseconds it takes to read the order of this number alone.
 pub(crate) fn read_alone(clock: &impl Clock, keys: &Keys, number: u64) -> Result<u128> {
-    let bytes = order(keys, serial_at(number), node_of(number));
+    let bytes = order(keys, serial_at(number), NodeId(1));
     let start = Instant::now(clock)?;
     let read = read_order(keys, &bytes);
     let spent = start.elapsed(clock)?.as_nanos();

@@ -17,17 +17,22 @@ fn place(sum: u64, place: &Place) -> u64 {
     mix(sum, u64::from(place.port))
 }
 
+fn all(sum: u64, places: &[Place]) -> u64 {
+    let mut sum = sum;
+    for one in places {
+        sum = place(sum, one);
+    }
+    sum
+}
+
 fn offer(sum: u64, offer: &Offer) -> u64 {
     let sum = mix(sum, u64::from(offer.customer.0));
     let sum = mix(sum, offer.segment.0);
     let sum = mix(sum, offer.serial.0);
     let sum = mix(sum, u64::from(offer.action));
     let sum = mix(sum, offer.piece_len);
-    let mut sum = mix(sum, offer.issued.seconds());
-    for one in offer.places.as_slice() {
-        sum = place(sum, one);
-    }
-    sum
+    let sum = mix(sum, offer.issued.seconds());
+    all(sum, offer.places.as_slice())
 }
 
 fn done(sum: u64, done: &Done) -> u64 {
@@ -51,11 +56,32 @@ pub(crate) fn reply(sum: u64, reply: &Reply) -> u64 {
         Reply::Refused(refusal) => mix(mix(sum, 6), u64::from(refusal.number())),
         Reply::StoreFault { before, after } => mix(mix(mix(sum, 7), *before), *after),
         Reply::NoMemory => mix(sum, 8),
-        _ => mix(sum, 9),
+        Reply::AuditPlanned { places, .. } => all(mix(sum, 9), places.as_slice()),
+        Reply::RepairPlanned {
+            sources,
+            targets,
+            ..
+        } => { all(all(mix(sum, 10), sources.as_slice()), targets.as_slice()) }
+        Reply::ExitPlanned {
+            sources,
+            target,
+            ..
+        } => { place(all(mix(sum, 11), sources.as_slice()), target) }
+        Reply::RecheckEnded { tries, .. } => mix(mix(sum, 12), u64::from(*tries)),
+        _ => mix(sum, 13),
     }
 }
 
 /// Whether the machine did what it was asked.
 pub(crate) fn is_accepted(reply: &Reply) -> bool {
-    matches!(reply, Reply::Done(_) | Reply::Settled { .. })
+    matches!(
+        reply,
+        Reply::Done(_)
+            | Reply::Settled { .. }
+            | Reply::FreeSet
+            | Reply::AuditPlanned { .. }
+            | Reply::RepairPlanned { .. }
+            | Reply::ExitPlanned { .. }
+            | Reply::RecheckEnded { .. }
+    )
 }

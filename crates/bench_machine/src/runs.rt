@@ -1,18 +1,25 @@
 // A store that is asked calls of every kind.
 use crate::calls::{Kind, ask, read_alone};
-use crate::fold;
 use crate::made::{SECRET, Size, parts};
+use crate::{fold, upkeep};
 use anyhow::{Result, bail};
+use audit_core::Checked;
 use order_limits::Keys;
+use sat_base::NodeId;
 use std::alloc::Global;
 use std::time::{Clock, Instant};
 use trial_core::Trial;
 
-const KINDS: [Kind; 5] = [
+const KINDS: [Kind; 10] = [
     Kind::SettleAbove,
     Kind::SettleAmong,
     Kind::Get,
     Kind::Begin,
+    Kind::SetFree,
+    Kind::PlanAudit,
+    Kind::PlanRepair,
+    Kind::PlanExit,
+    Kind::Recheck,
     Kind::Delete,
 ];
 
@@ -49,8 +56,8 @@ fn outcome_of(
     };
     for number in 0..size.calls {
         let answer = ask(clock, alloc, keys, trial, size, kind, number)?;
-        outcome.sum = fold::reply(outcome.sum, &answer.reply);
-        if fold::is_accepted(&answer.reply) {
+        outcome.sum = fold::mix(outcome.sum, answer.sum);
+        if answer.accepted {
             outcome.accepted = outcome.accepted.saturating_add(1);
         }
         outcome.times.push(answer.spent)?;
@@ -77,10 +84,14 @@ fn time_reading(rt: &HostRuntime, keys: &Keys, size: Size) -> Result<()> {
     print_times(rt, "read_order", times)
 }
 
-// Each `Get` and each `Delete` needs a segment of its own, and each order a place of its own among the rows.
+// Each `Get` and each `Delete` needs a segment of its own, each order a place of its own among the rows, and each recheck a
+// node of its own.
 fn test_size(size: Size) -> Result<()> {
     if size.calls.saturating_mul(2) > size.segments || size.calls > size.rows {
         bail!("there are too few segments or rows");
+    }
+    if size.nodes <= size.calls.saturating_add(1) || size.nodes < 120 || size.nodes > 65_536 {
+        bail!("so many nodes don't do");
     }
     Ok(())
 }
@@ -114,6 +125,14 @@ fn time_kind(
     print_times(rt, kind.name(), outcome.times)
 }
 
+// A node fails its recheck and is disqualified. The next call counts its pieces as lost.
+fn time_loss(rt: &HostRuntime, trial: &mut Trial) -> Result<()> {
+    let failed = upkeep::recheck(rt, trial, Checked::Fail)?.spent;
+    let behind = upkeep::set_free(rt, trial, NodeId(1), 0)?.spent;
+    println!(rt; "disqualified failed {failed} behind {behind}")?;
+    Ok(())
+}
+
 /// Prints how many calls of each kind were accepted, and the check sums of their replies.
 pub(crate) fn check(rt: &HostRuntime, size: Size) -> Result<()> {
     test_size(size)?;
@@ -135,5 +154,5 @@ pub(crate) fn time(rt: &HostRuntime, size: Size) -> Result<()> {
     for kind in KINDS {
         time_kind(rt, &keys, &mut trial, size, kind)?;
     }
-    Ok(())
+    time_loss(rt, &mut trial)
 }

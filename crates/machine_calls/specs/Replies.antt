@@ -1,5 +1,7 @@
 -- Which replies are of steps that were made, and which of them callers are told.
 use Rattle.std.specs.Prelude.{Bool, true, false, ◌||◌}
+use Rattle.machine_calls.specs.declared.call.Call.{Call}
+use Rattle.machine_calls.specs.declared.call.Call.TheVariants as calls
 use Rattle.machine_calls.specs.declared.reply.Reply.{Reply}
 use Rattle.machine_calls.specs.declared.reply.Reply.TheVariants as replies
 
@@ -8,6 +10,18 @@ abbrev pub is_lost : Reply → Bool
 is_lost (replies.StoreFault before after) = true
 is_lost replies.NoMemory = true
 is_lost _ = false
+
+-- a call that a customer, a node or the operator asks; the others the satellite makes on its own account
+abbrev pub is_request : Call → Bool
+is_request (calls.PlanAudit now words) = false
+is_request (calls.EndAudit now judged) = false
+is_request (calls.PlanRecheck now) = false
+is_request (calls.EndRecheck now plan checked) = false
+is_request (calls.PlanRepair now words) = false
+is_request (calls.EndRepair now outcome) = false
+is_request (calls.PlanExit now words) = false
+is_request (calls.EndExit now outcome) = false
+is_request _ = true
 
 -- a reply to what a customer, a node or the operator can ask so far; the others are to what the satellite asks on its own account, or to calls that are still to come
 abbrev pub is_told : Reply → Bool

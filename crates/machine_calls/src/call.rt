@@ -1,8 +1,10 @@
+use audit_core::{Checked, Judged, RecheckPlan};
+use repair_core::RepairOutcome;
 use sat_base::{Bytes, CustomerId, Indexes, Moment, NodeId, SegId, Words64};
 
 /// What the machine is asked. `now` is the moment that its caller's clock gave; the machine takes no moment that is
 /// earlier than one it has taken.
-#[derive(Debug, PartialEq, Eq, Drop)]
+#[derive(Debug, Drop)]
 pub enum Call {
     /// The operator adds a node, by its IPv4 address and the bytes that it says are free.
     AddNode {
@@ -58,6 +60,51 @@ pub enum Call {
         now: Moment,
         node: NodeId,
         free: u64,
+    },
+    /// An audit is to be planned. There are 2 random words.
+    PlanAudit {
+        now: Moment,
+        words: Words64,
+    },
+    /// What the open audit found.
+    EndAudit {
+        now: Moment,
+        judged: Judged,
+    },
+    /// A silent node is to be asked again.
+    PlanRecheck {
+        now: Moment,
+    },
+    /// What asking it again found.
+    EndRecheck {
+        now: Moment,
+        plan: RecheckPlan,
+        checked: Checked,
+    },
+    /// A repair is to be planned. There are 128 random words.
+    PlanRepair {
+        now: Moment,
+        words: Words64,
+    },
+    /// What came of the open repair.
+    EndRepair {
+        now: Moment,
+        outcome: RepairOutcome,
+    },
+    /// A node asks to leave.
+    Exit {
+        now: Moment,
+        node: NodeId,
+    },
+    /// A piece of a node that leaves is to be made afresh elsewhere. There are 128 random words.
+    PlanExit {
+        now: Moment,
+        words: Words64,
+    },
+    /// What came of the open exit plan.
+    EndExit {
+        now: Moment,
+        outcome: RepairOutcome,
     },
     /// The operator stops the machine.
     Stop,

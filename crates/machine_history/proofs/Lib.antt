@@ -1,3 +1,3 @@
-mod RepeatLemmas
-mod HistoryLemmas
+pub mod RepeatLemmas
+pub mod HistoryLemmas
 pub mod OrderLemmas

@@ -1,5 +1,5 @@
 -- Each order settles once: a row that is made stays.
-use Rattle.std.proofs.Common.{◌≡◌, ◌⊎◌, inl, inr, ℕ, suc, zero, ◌+◌, ◌*◌, ◌<◌, ◌≤◌, ◌^◌, Bool, true, false, cond, List, [], ◌∷◌, ◌++◌, Option, Some, None, Result, Ok, Err, take, drop, length, slice_index, nat_eq, refl, sym, ap, subst, ◌∙◌, arith, get_or}
+use Rattle.std.proofs.Common.{◌≡◌, ◌⊎◌, inl, inr, ℕ, suc, zero, ◌<◌, ◌≤◌, ◌^◌, Bool, true, false, List, [], ◌∷◌, ◌++◌, Option, Some, None, Result, Ok, Err, take, drop, length, slice_index, nat_eq, refl, sym, ap, subst, ◌∙◌, arith}
 use Rattle.std.specs.Prelude.{if◌then◌else◌, slice_get, ◌==◌}
 use Rattle.std.specs.Cmp.Lexicographic.{pointwise}
 use Rattle.std.specs.Int.{w32, w64, from_be_bytes}
@@ -44,12 +44,12 @@ use Rattle.machine_calls.specs.declared.reply.Reply.TheVariants as replies
 use Rattle.machine_step.specs.Bounds.{IsValid}
 use Rattle.machine_step.specs.Calls.Settle.{settle, settle_as}
 use Rattle.machine_step.specs.Containment.{swept}
-use Rattle.machine_step.specs.Outcome.{Outcome, refused, with_record}
+use Rattle.machine_step.specs.Outcome.{refused, with_record}
 use Rattle.machine_step.specs.Step.{after, case_of, risen, step}
 use Rattle.machine_step.specs.Tables.{Setup, Tables, changed, all_changed}
 use Rattle.machine_step.proofs.ReleaseLemmas.{releases_are}
 use Rattle.machine_step.proofs.RowLemmas.{row_at-with_row}
-use Rattle.machine_step.proofs.Touches.{kind_of, kinds_of, are_of, touched, frame}
+use Rattle.machine_step.proofs.Touches.{kind_of, kinds_of, touched, frame}
 use Rattle.machine_history.specs.History.{Said, IsLegal, IsRight, replay, taken}
 use Rattle.machine_history.specs.Orders.{AreOfBytes, HasBytes, IfSettled, IsFirst, SettleOnce, SettlesAs}
 use Rattle.machine_history.proofs.HistoryLemmas.{follows_all, legal-append, replay-append}
@@ -138,14 +138,7 @@ leaves-settled (changes.Remove (keys.Containment node)) t other = refl
 -- a call settles, or leaves the rows
 settles_or : (call : Call) → (is_among (kinds_of call) 6 ≡ false) ⊎ ((now : ℕ) × (node : NodeId) × (bytes : List ℕ) × (call ≡ calls.Settle now node bytes))
 settles_or (calls.Settle now node bytes) = inr (now, node, bytes, refl)
-settles_or (calls.AddNode now request addr port free) = inl refl
-settles_or (calls.AddCustomer now request) = inl refl
-settles_or (calls.Begin now customer request len words) = inl refl
-settles_or (calls.Commit now customer request segment indexes) = inl refl
-settles_or (calls.Get now customer request segment) = inl refl
-settles_or (calls.Delete now customer request segment) = inl refl
-settles_or (calls.SetFree now node free) = inl refl
-settles_or calls.Stop = inl refl
+settles_or _ = inl refl
 
 -- the rows behind a step are those behind its case
 after_case : (t : Tables) (call : Call) → ((after t call).settled ≡ t.settled) ⊎ ((after t call).settled ≡ (all_changed t (case_of t call).changes).settled)

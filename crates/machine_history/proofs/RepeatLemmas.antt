@@ -1,6 +1,6 @@
 -- What is kept of a request stays until another number of its caller is accepted.
-use Rattle.std.proofs.Common.{◌≡◌, ℕ, Bool, true, false, List, [], ◌∷◌, ◌++◌, Some, None, Option, IfSome, IsSomeAnd, is_none, refl, sym, ap, subst, ◌∙◌, arith}
-use Rattle.std.specs.Prelude.{if◌then◌else◌, map}
+use Rattle.std.proofs.Common.{◌≡◌, ℕ, Bool, true, false, List, [], ◌∷◌, Some, None, Option, IfSome, IsSomeAnd, is_none, refl, sym, ap, subst, ◌∙◌, arith}
+use Rattle.std.specs.Prelude.{if◌then◌else◌}
 use Rattle.std.proofs.lemmas.Bool.Decides.{nat_tests}
 use Rattle.sat_base.specs.declared.requests.Kept.{Kept}
 use Rattle.sat_base.specs.declared.requests.Asked.{Asked}
@@ -65,9 +65,7 @@ repeats t r done (calls.Begin now customer request len words) m e = grind (arith
 repeats t r done (calls.Commit now customer request segment indexes) m e = grind (arith, nat_tests)
 repeats t r done (calls.Get now customer request segment) m e = grind (arith, nat_tests)
 repeats t r done (calls.Delete now customer request segment) m e = grind (arith, nat_tests)
-repeats t r done (calls.Settle now node bytes) m e = cc
-repeats t r done (calls.SetFree now node free) m e = cc
-repeats t r done calls.Stop m e = cc
+repeats t r done _ m e = cc
 
 -- what is kept for a caller, after an outcome
 abbrev kept_after : Tables → Outcome → ℕ → Option Kept
@@ -91,21 +89,13 @@ kept_stays t r kept (calls.Begin now customer request len words) at number quiet
 kept_stays t r kept (calls.Commit now customer request segment indexes) at number quiet = grind (arith, nat_tests, quiet, row_at-with_row kept_rank t.kept)
 kept_stays t r kept (calls.Get now customer request segment) at number quiet = grind (arith, nat_tests, quiet, row_at-with_row kept_rank t.kept)
 kept_stays t r kept (calls.Delete now customer request segment) at number quiet = grind (arith, nat_tests, quiet, row_at-with_row kept_rank t.kept)
-kept_stays t r kept (calls.Settle now node bytes) at number quiet = kept_unseen t (calls.Settle now node bytes) r.caller kept refl at
-kept_stays t r kept (calls.SetFree now node free) at number quiet = kept_unseen t (calls.SetFree now node free) r.caller kept refl at
 kept_stays t r kept calls.Stop at number quiet = at
+kept_stays t r kept call at number quiet = kept_unseen t call r.caller kept refl at
 
 -- no step takes a customer away
 customers_stay : (t : Tables) (call : Call) (k : ℕ) → is_none (customer_at t.customers k) ≡ false → is_none (customer_at (all_changed t (case_of t call).changes).customers k) ≡ false
-customers_stay t (calls.AddNode now request addr port free) k known = customers_unseen t (calls.AddNode now request addr port free) k refl known
 customers_stay t (calls.AddCustomer now request) k known = grind (arith, nat_tests, row_at-with_row customer_rank t.customers)
-customers_stay t (calls.Begin now customer request len words) k known = customers_unseen t (calls.Begin now customer request len words) k refl known
-customers_stay t (calls.Commit now customer request segment indexes) k known = customers_unseen t (calls.Commit now customer request segment indexes) k refl known
-customers_stay t (calls.Get now customer request segment) k known = customers_unseen t (calls.Get now customer request segment) k refl known
-customers_stay t (calls.Delete now customer request segment) k known = customers_unseen t (calls.Delete now customer request segment) k refl known
-customers_stay t (calls.Settle now node bytes) k known = customers_unseen t (calls.Settle now node bytes) k refl known
-customers_stay t (calls.SetFree now node free) k known = customers_unseen t (calls.SetFree now node free) k refl known
-customers_stay t calls.Stop k known = known
+customers_stay t call k known = customers_unseen t call k refl known
 
 -- the row keeps the request and its answer
 abbrev Keeps : Request → Done → Kept → Type 0
@@ -120,9 +110,7 @@ kept_first t r done (calls.Begin now customer request len words) e h = grind (ar
 kept_first t r done (calls.Commit now customer request segment indexes) e h = grind (arith, nat_tests, row_at-with_row kept_rank t.kept, same_self r.asked)
 kept_first t r done (calls.Get now customer request segment) e h = grind (arith, nat_tests, row_at-with_row kept_rank t.kept, same_self r.asked)
 kept_first t r done (calls.Delete now customer request segment) e h = grind (arith, nat_tests, row_at-with_row kept_rank t.kept, same_self r.asked)
-kept_first t r done (calls.Settle now node bytes) e h = cc
-kept_first t r done (calls.SetFree now node free) e h = cc
-kept_first t r done calls.Stop e h = cc
+kept_first t r done _ e h = cc
 
 -- and its customer, where it has one, is known
 known_first : (t : Tables) (r : Request) (done : Done) (call : Call) → request_of call ≡ Some r → (case_of t call).reply ≡ replies.Done done
@@ -133,9 +121,7 @@ known_first t r done (calls.Begin now customer request len words) e h o = grind 
 known_first t r done (calls.Commit now customer request segment indexes) e h o = grind (arith, nat_tests)
 known_first t r done (calls.Get now customer request segment) e h o = grind (arith, nat_tests)
 known_first t r done (calls.Delete now customer request segment) e h o = grind (arith, nat_tests)
-known_first t r done (calls.Settle now node bytes) e h o = cc
-known_first t r done (calls.SetFree now node free) e h o = cc
-known_first t r done calls.Stop e h o = cc
+known_first t r done _ e h o = cc
 
 -- the mark that stops is no record
 stopped_by : (t : Tables) (change : RecChange) → (changed t change).stopped ≡ t.stopped

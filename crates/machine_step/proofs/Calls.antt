@@ -6,3 +6,12 @@ pub mod Get
 pub mod Delete
 pub mod Settle
 pub mod SetFree
+pub mod PlanAudit
+pub mod EndAudit
+pub mod PlanRecheck
+pub mod EndRecheck
+pub mod PlanRepair
+pub mod EndRepair
+pub mod Exit
+pub mod PlanExit
+pub mod EndExit

@@ -23,7 +23,8 @@ use Rattle.segment_core.specs.Record.{SegmentRecord}
 use Rattle.settlement.specs.declared.row.SettledRow.{SettledRow}
 use Rattle.machine_step.specs.Tables.{Setup, is_no_size, customer_at}
 use Rattle.machine_step.specs.Places.{addr_of}
-use Rattle.machine_step.specs.Rules.{first_bad, is_known, has_begun, is_next_number, are_sound_marks, is_rated, breaks_node, breaks_customer, are_known, subnets_of, are_apart, are_below, is_sound_version, is_sound_segment, is_sound_settled, is_callers, is_sound_asked, is_sound_offer, is_sound_done, is_sound_kept}
+use Rattle.machine_step.specs.Rules.{first_bad, is_known, has_begun, is_next_number, are_sound_marks, is_rated, breaks_node, breaks_customer, are_known, are_apart, are_below, is_sound_version, is_sound_segment, is_sound_settled, is_callers, is_sound_asked, is_sound_offer, is_sound_done, is_sound_kept}
+use Rattle.machine_step.specs.Places.{subnets_of}
 use Rattle.machine_step.proofs.RowLemmas.{row_at-with_row, all-weaker, both, and_of}
 
 -- ---- the marks

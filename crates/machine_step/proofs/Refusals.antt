@@ -13,15 +13,8 @@ use Rattle.machine_step.specs.Tables.{Tables, all_changed}
 use Rattle.machine_step.specs.Step.{step, case_of, after, is_stopping}
 
 refusal_case : (t : Tables) (call : Call) (cause : Refusal) → (case_of t call).reply ≡ replies.Refused cause → (case_of t call).changes ≡ []
-refusal_case t (calls.AddNode now request addr port free) cause h = grind (arith, nat_tests)
-refusal_case t (calls.AddCustomer now request) cause h = grind (arith, nat_tests)
-refusal_case t (calls.Begin now customer request len words) cause h = grind (arith, nat_tests)
-refusal_case t (calls.Commit now customer request segment indexes) cause h = grind (arith, nat_tests)
-refusal_case t (calls.Get now customer request segment) cause h = grind (arith, nat_tests)
-refusal_case t (calls.Delete now customer request segment) cause h = grind (arith, nat_tests)
-refusal_case t (calls.Settle now node bytes) cause h = grind (arith, nat_tests)
-refusal_case t (calls.SetFree now node free) cause h = grind (arith, nat_tests)
 refusal_case t calls.Stop cause h = refl
+refusal_case t call cause h = grind (arith, nat_tests)
 
 no_changes : (t : Tables) (call : Call) (cause : Refusal) → (step t call).reply ≡ replies.Refused cause → (step t call).changes ≡ []
 no_changes t call cause h = go t.stopped h

@@ -1,4 +1,4 @@
--- Each step is answered by a reply that its caller is told.
+-- Each step of a request is answered by a reply that its caller is told, and no step by one of a step that wasn't made.
 use Rattle.std.proofs.Common.{◌≡◌, ℕ, Bool, true, false, List, length, Option, Some, None, Result, Ok, Err, refl, ap, arith}
 use Rattle.std.specs.Prelude.{if◌then◌else◌, ◌||◌, ◌==◌, nat_lt, nat_le, find}
 use Rattle.std.proofs.lemmas.Bool.Decides.{nat_tests}
@@ -8,11 +8,9 @@ use Rattle.order_limits.specs.declared.read.OrderErr.{OrderErr}
 use Rattle.order_limits.specs.declared.read.OrderErr.TheVariants as reads
 use Rattle.order_limits.specs.Read.{order_of}
 use Rattle.segment_core.specs.Commit.{refusal, first_cause, first_repeated}
-use Rattle.segment_core.specs.declared.committing.CommitErr.{CommitErr}
 use Rattle.segment_core.specs.declared.committing.CommitErr.TheVariants as causes
 use Rattle.settlement.specs.declared.row.SettledRow.{SettledRow}
 use Rattle.settlement.specs.declared.answer.Settlable.{Settlable}
-use Rattle.settlement.specs.declared.answer.Settlable.TheVariants as may
 use Rattle.settlement.specs.declared.answer.SettleErr.{SettleErr}
 use Rattle.settlement.specs.declared.answer.SettleErr.TheVariants as no
 use Rattle.settlement.specs.Place.{place}
@@ -23,7 +21,7 @@ use Rattle.machine_calls.specs.declared.call.Call.TheVariants as calls
 use Rattle.machine_calls.specs.declared.refusal.Refusal.TheVariants as refusals
 use Rattle.machine_calls.specs.declared.reply.Reply.{Reply}
 use Rattle.machine_calls.specs.declared.reply.Reply.TheVariants as replies
-use Rattle.machine_calls.specs.Replies.{is_lost, is_told, is_sayable}
+use Rattle.machine_calls.specs.Replies.{is_request, is_lost, is_told, is_sayable}
 use Rattle.machine_step.specs.Tables.{Tables}
 use Rattle.machine_step.specs.Outcome.{Outcome, refused}
 use Rattle.machine_step.specs.Containment.{swept}
@@ -81,23 +79,25 @@ settle_answered t time rows cap secret node now bytes = on_answered t time (orde
 
 -- ---- all calls
 
-case_answered : (t : Tables) (call : Call) → IsAnswered (case_of t call)
-case_answered t (calls.AddNode now request addr port free) = grind (arith, nat_tests)
-case_answered t (calls.AddCustomer now request) = grind (arith, nat_tests)
-case_answered t (calls.Begin now customer request len words) = grind (arith, nat_tests)
-case_answered t (calls.Commit now customer request segment indexes) = grind (arith, nat_tests, caused_answered t.setup.n t.setup.o indexes)
-case_answered t (calls.Get now customer request segment) = grind (arith, nat_tests)
-case_answered t (calls.Delete now customer request segment) = grind (arith, nat_tests)
-case_answered t (calls.Settle now node bytes) = grind (arith, nat_tests, settle_answered t)
-case_answered t (calls.SetFree now node free) = grind (arith, nat_tests)
-case_answered t calls.Stop = refl
+case_answered : (t : Tables) (call : Call) → is_request call ≡ true → IsAnswered (case_of t call)
+case_answered t (calls.AddNode now request addr port free) asked = grind (arith, nat_tests)
+case_answered t (calls.AddCustomer now request) asked = grind (arith, nat_tests)
+case_answered t (calls.Begin now customer request len words) asked = grind (arith, nat_tests)
+case_answered t (calls.Commit now customer request segment indexes) asked = grind (arith, nat_tests, caused_answered t.setup.n t.setup.o indexes)
+case_answered t (calls.Get now customer request segment) asked = grind (arith, nat_tests)
+case_answered t (calls.Delete now customer request segment) asked = grind (arith, nat_tests)
+case_answered t (calls.Settle now node bytes) asked = grind (arith, nat_tests, settle_answered t)
+case_answered t (calls.SetFree now node free) asked = grind (arith, nat_tests)
+case_answered t (calls.Exit now node) asked = grind (arith, nat_tests)
+case_answered t calls.Stop asked = refl
+case_answered t _ asked = cc
 
-pub step_answered : (t : Tables) (call : Call) → IsAnswered (step t call)
-step_answered t call = go t.stopped
+pub step_answered : (t : Tables) (call : Call) → is_request call ≡ true → IsAnswered (step t call)
+step_answered t call asked = go t.stopped
   where
     go : (b : Bool) → IsAnswered (if b then refused refusals.Stopped else swept t (case_of t call))
     go true = refl
-    go false = case_answered t call
+    go false = case_answered t call asked
 
 -- and so no step is lost by its reply
 lost-told : (reply : Reply) → is_told reply ≡ true → is_lost reply ≡ false
@@ -126,9 +126,24 @@ lost-told (replies.Refused c) h = refl
 lost-told (replies.StoreFault a b) h = cc
 lost-told replies.NoMemory h = cc
 
-pub step_made : (t : Tables) (call : Call) → is_lost (step t call).reply ≡ false
-step_made t call = lost-told (step t call).reply (step_answered t call)
+case_made : (t : Tables) (call : Call) → is_lost (case_of t call).reply ≡ false
+case_made t (calls.PlanAudit now words) = grind (arith, nat_tests)
+case_made t (calls.EndAudit now judged) = grind (arith, nat_tests)
+case_made t (calls.PlanRecheck now) = grind (arith, nat_tests)
+case_made t (calls.EndRecheck now plan checked) = grind (arith, nat_tests)
+case_made t (calls.PlanRepair now words) = grind (arith, nat_tests)
+case_made t (calls.EndRepair now outcome) = grind (arith, nat_tests)
+case_made t (calls.PlanExit now words) = grind (arith, nat_tests)
+case_made t (calls.EndExit now outcome) = grind (arith, nat_tests)
+case_made t call = lost-told (case_of t call).reply (case_answered t call refl)
 
--- and can be answered to a caller
-pub step_sayable : (t : Tables) (call : Call) → is_sayable (step t call).reply ≡ true
-step_sayable t call = ap (λ (b : Bool). b || is_lost (step t call).reply) (step_answered t call)
+pub step_made : (t : Tables) (call : Call) → is_lost (step t call).reply ≡ false
+step_made t call = go t.stopped
+  where
+    go : (b : Bool) → is_lost (if b then refused refusals.Stopped else swept t (case_of t call)).reply ≡ false
+    go true = refl
+    go false = case_made t call
+
+-- and what is requested can be answered to a caller
+pub step_sayable : (t : Tables) (call : Call) → is_request call ≡ true → is_sayable (step t call).reply ≡ true
+step_sayable t call asked = ap (λ (b : Bool). b || is_lost (step t call).reply) (step_answered t call asked)

@@ -1,5 +1,5 @@
 -- What putting a row or removing one does to a list in the order of ranks, and to what is said of each row.
-use Rattle.std.proofs.Common.{◌≡◌, ℕ, suc, ◌+◌, ◌<◌, ◌≤◌, Bool, true, false, not, List, [], ◌∷◌, length, Some, None, is_some, refl, subst, arith}
+use Rattle.std.proofs.Common.{◌≡◌, ℕ, zero, suc, ◌+◌, ◌<◌, ◌≤◌, Bool, true, false, not, List, [], ◌∷◌, length, Some, None, is_some, refl, subst, arith, slice_get}
 use Rattle.std.specs.Prelude.{if◌then◌else◌, ◌==◌, ◌||◌, ◌&&◌, nat_le}
 use Rattle.std.specs.List.{list_all}
 use Rattle.std.proofs.lemmas.Bool.Decides.{nat_tests}
@@ -128,3 +128,18 @@ both false b h = cc
 pub and_of : (a b : Bool) → a ≡ true → b ≡ true → (a && b) ≡ true
 and_of true b p q = q
 and_of false b p q = cc
+
+-- ---- rows by place
+
+above-got : {R : Type 0} (rank : R → ℕ) (n : ℕ) (rows : List R) → AllAbove rank n rows → (k : ℕ) (row : R) → slice_get rows k ≡ Some row → n < rank row
+above-got rank n [] above k row got = cc
+above-got {R} rank n (x ∷ rows) above zero row got = let same : x ≡ row = cc in subst (λ (r : R). n < rank r) same above.0
+above-got rank n (x ∷ rows) above (suc k) row got = above-got rank n rows above.1 k row got
+
+-- a row at a place is found by its rank
+pub rising-got : {R : Type 0} (rank : R → ℕ) (rows : List R) → IsRising rank rows → (k : ℕ) (row : R) → slice_get rows k ≡ Some row → row_at rank rows (rank row) ≡ Some row
+rising-got rank [] rising k row got = cc
+rising-got rank (x ∷ rows) rising zero row got = let same : x ≡ row = cc in grind (arith, nat_tests, same)
+rising-got rank (x ∷ rows) rising (suc k) row got =
+    let lt = above-got rank (rank x) rows rising.0 k row got in
+    grind (arith, nat_tests, lt, rising-got rank rows rising.1 k row got)

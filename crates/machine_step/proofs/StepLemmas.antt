@@ -1,5 +1,5 @@
 -- Each step keeps the rules of the tables, the order of their rows and the bounds of their records, and releases nothing that stands.
-use Rattle.std.proofs.Common.{◌≡◌, ℕ, ◌<◌, ◌^◌, Bool, true, false, List, [], ◌∷◌, ◌++◌, refl, arith}
+use Rattle.std.proofs.Common.{ℕ, ◌<◌, ◌^◌, Bool, true, false, List, [], ◌∷◌, ◌++◌, refl, arith}
 use Rattle.std.specs.Prelude.{◌||◌, map, if◌then◌else◌}
 use Rattle.machine_calls.specs.declared.call.Call.{Call}
 use Rattle.machine_calls.specs.declared.call.Call.TheVariants as calls
@@ -13,7 +13,7 @@ use Rattle.machine_step.specs.Writable.{IsWritable}
 use Rattle.machine_step.specs.Containment.{release, fallen, with_releases, swept}
 use Rattle.machine_step.specs.Step.{risen, asking, operator, case_of, step, after, tables_after, is_stopping, IsWellFormed}
 use Rattle.machine_step.specs.Bounds.{Each, IsValid}
-use Rattle.machine_step.proofs.Validity.{Follows, follows, unreleased}
+use Rattle.machine_step.proofs.Validity.{Follows, follows}
 use Rattle.machine_step.proofs.Fits.{After, still}
 use Rattle.machine_step.proofs.Calls.AddNode.{fit_add_node}
 use Rattle.machine_step.proofs.Calls.AddCustomer.{fit_add_customer}
@@ -23,35 +23,49 @@ use Rattle.machine_step.proofs.Calls.Get.{fit_get}
 use Rattle.machine_step.proofs.Calls.Delete.{fit_delete}
 use Rattle.machine_step.proofs.Calls.Settle.{fit_settle}
 use Rattle.machine_step.proofs.Calls.SetFree.{fit_set_free}
+use Rattle.machine_step.proofs.Calls.PlanAudit.{fit_plan_audit}
+use Rattle.machine_step.proofs.Calls.EndAudit.{fit_end_audit}
+use Rattle.machine_step.proofs.Calls.PlanRecheck.{fit_plan_recheck}
+use Rattle.machine_step.proofs.Calls.EndRecheck.{fit_end_recheck}
+use Rattle.machine_step.proofs.Calls.PlanRepair.{fit_plan_repair}
+use Rattle.machine_step.proofs.Calls.EndRepair.{fit_end_repair}
+use Rattle.machine_step.proofs.Calls.Exit.{fit_exit}
+use Rattle.machine_step.proofs.Calls.PlanExit.{fit_plan_exit}
+use Rattle.machine_step.proofs.Calls.EndExit.{fit_end_exit}
 
 -- the moment of a call is one
 risen_within : (t : Tables) (v : IsValid t) (now : ℕ) → now < 2 ^ 36 → risen t now < 2 ^ 36
 risen_within t v now lt = omega (arith, v.bounds.marks.time)
 
 pub fit_case : (t : Tables) (call : Call) → IsValid t → IsWellFormed t call → After t (case_of t call)
-fit_case t (calls.AddNode now request addr port free) v w = fit_add_node t v (asking t operator request now) (omega arith) (risen_within t v now w.timely) refl addr port free
-fit_case t (calls.AddCustomer now request) v w = fit_add_customer t v (asking t operator request now) (omega arith) (risen_within t v now w.timely) refl
-fit_case t (calls.Begin now customer request len words) v w = fit_begin t v (asking t customer request now) (omega arith) (risen_within t v now w.timely) len words
-fit_case t (calls.Commit now customer request segment indexes) v w = fit_commit t v (asking t customer request now) (omega arith) (risen_within t v now w.timely) segment indexes
-fit_case t (calls.Get now customer request segment) v w = fit_get t v (asking t customer request now) (omega arith) (risen_within t v now w.timely) segment
-fit_case t (calls.Delete now customer request segment) v w = fit_delete t v (asking t customer request now) (omega arith) (risen_within t v now w.timely) segment
-fit_case t (calls.Settle now node bytes) v w = fit_settle t v (risen t now) (omega arith) (risen_within t v now w.timely) node bytes
-fit_case t (calls.SetFree now node free) v w = fit_set_free t v (risen t now) (omega arith) (risen_within t v now w.timely) node free
+fit_case t (calls.AddNode now request addr port free) v w = fit_add_node t v (asking t operator request now) (omega arith) (risen_within t v now w.formed.timely) refl addr port free
+fit_case t (calls.AddCustomer now request) v w = fit_add_customer t v (asking t operator request now) (omega arith) (risen_within t v now w.formed.timely) refl
+fit_case t (calls.Begin now customer request len words) v w = fit_begin t v (asking t customer request now) (omega arith) (risen_within t v now w.formed.timely) len words
+fit_case t (calls.Commit now customer request segment indexes) v w = fit_commit t v (asking t customer request now) (omega arith) (risen_within t v now w.formed.timely) segment indexes
+fit_case t (calls.Get now customer request segment) v w = fit_get t v (asking t customer request now) (omega arith) (risen_within t v now w.formed.timely) segment
+fit_case t (calls.Delete now customer request segment) v w = fit_delete t v (asking t customer request now) (omega arith) (risen_within t v now w.formed.timely) segment
+fit_case t (calls.Settle now node bytes) v w = fit_settle t v (risen t now) (omega arith) (risen_within t v now w.formed.timely) node bytes
+fit_case t (calls.SetFree now node free) v w = fit_set_free t v (risen t now) (omega arith) (risen_within t v now w.formed.timely) node free
+fit_case t (calls.PlanAudit now words) v w = fit_plan_audit t v (risen t now) (omega arith) (risen_within t v now w.formed.timely) words
+fit_case t (calls.EndAudit now judged) v w = fit_end_audit t v (risen t now) (omega arith) (risen_within t v now w.formed.timely) judged
+fit_case t (calls.PlanRecheck now) v w = fit_plan_recheck t v (risen t now) (omega arith) (risen_within t v now w.formed.timely)
+fit_case t (calls.EndRecheck now plan checked) v w = fit_end_recheck t v (risen t now) (omega arith) (risen_within t v now w.formed.timely) plan checked
+fit_case t (calls.PlanRepair now words) v w = fit_plan_repair t v (risen t now) (omega arith) (risen_within t v now w.formed.timely) words
+fit_case t (calls.EndRepair now outcome) v w = fit_end_repair t v (risen t now) (omega arith) (risen_within t v now w.formed.timely) outcome w.scheme
+fit_case t (calls.Exit now node) v w = fit_exit t v (risen t now) (omega arith) (risen_within t v now w.formed.timely) node
+fit_case t (calls.PlanExit now words) v w = fit_plan_exit t v (risen t now) (omega arith) (risen_within t v now w.formed.timely) words
+fit_case t (calls.EndExit now outcome) v w = fit_end_exit t v (risen t now) (omega arith) (risen_within t v now w.formed.timely) outcome w.scheme
 fit_case t calls.Stop v w = still t v replies.Stopping
 
 pub follows_step : (t : Tables) (call : Call) → IsValid t → IsWellFormed t call → Follows t (after t call)
 follows_step t call v w = go t.stopped
   where
     go : (b : Bool) → Follows t (tables_after t (if b then refused refusals.Stopped else swept t (case_of t call)))
-    go true = follows t (t.stopped || false) [] (still t v replies.Stopping).0
-    go false = follows t ((all_changed t (with_releases t (case_of t call).changes)).stopped || is_stopping (case_of t call).reply) (case_of t call).changes (fit_case t call v w).0
+    go true = follows t v (t.stopped || false) [] (still t v replies.Stopping).0
+    go false = follows t v ((all_changed t (with_releases t (case_of t call).changes)).stopped || is_stopping (case_of t call).reply) (case_of t call).changes (fit_case t call v w).0
 
 pub valid_step : (t : Tables) (call : Call) → IsValid t → IsWellFormed t call → IsValid (after t call)
 valid_step t call v w = (follows_step t call v w).valid
-
--- what comes of a call releases nothing, as long as nothing is contained
-pub swept_case : (t : Tables) (call : Call) → IsValid t → IsWellFormed t call → with_releases t (case_of t call).changes ≡ (case_of t call).changes
-swept_case t call v w = unreleased t.marks.segment t (case_of t call).changes (fit_case t call v w).0.steady
 
 -- ---- what a store is told
 

@@ -1,6 +1,6 @@
 -- Which tables a call may touch, by the kinds of the records that it changes; a table of another kind stays.
-use Rattle.std.proofs.Common.{◌≡◌, ℕ, Bool, true, false, List, [], ◌∷◌, refl, ◌∙◌, arith}
-use Rattle.std.specs.Prelude.{◌==◌}
+use Rattle.std.proofs.Common.{◌≡◌, ℕ, Bool, true, false, List, [], ◌∷◌, ◌++◌, None, refl, ap, ◌∙◌, arith}
+use Rattle.std.specs.Prelude.{◌==◌, if◌then◌else◌, map}
 use Rattle.std.specs.List.{list_all}
 use Rattle.std.proofs.lemmas.Bool.Decides.{nat_tests}
 use Rattle.sat_base.specs.declared.records.Key.TheVariants as keys
@@ -11,7 +11,10 @@ use Rattle.machine_calls.specs.declared.change.RecChange.{RecChange}
 use Rattle.machine_calls.specs.declared.change.RecChange.TheVariants as changes
 use Rattle.machine_step.specs.Tables.{Tables, changed, all_changed}
 use Rattle.machine_step.specs.Step.{case_of}
-use Rattle.machine_step.proofs.RowLemmas.{both}
+use Rattle.sat_base.specs.declared.records.Containment.{Containment}
+use Rattle.node_registry.specs.declared.node.Node.{Node}
+use Rattle.machine_step.specs.Calls.EndAudit.{nodes_after, containments_after}
+use Rattle.machine_step.proofs.RowLemmas.{both, and_of}
 
 -- the kind of the record that a change puts or removes
 abbrev pub kind_of : RecChange → ℕ
@@ -49,7 +52,30 @@ kinds_of (calls.Get now customer request segment) = 2 ∷ 13 ∷ []
 kinds_of (calls.Delete now customer request segment) = 2 ∷ 5 ∷ 13 ∷ []
 kinds_of (calls.Settle now node bytes) = 2 ∷ 6 ∷ []
 kinds_of (calls.SetFree now node free) = 2 ∷ 3 ∷ []
+kinds_of (calls.PlanAudit now words) = 2 ∷ 9 ∷ []
+kinds_of (calls.EndAudit now judged) = 2 ∷ 3 ∷ 9 ∷ 12 ∷ []
+kinds_of (calls.PlanRecheck now) = 2 ∷ 10 ∷ []
+kinds_of (calls.EndRecheck now plan checked) = 2 ∷ 3 ∷ 10 ∷ 12 ∷ []
+kinds_of (calls.PlanRepair now words) = 2 ∷ 11 ∷ []
+kinds_of (calls.EndRepair now outcome) = 2 ∷ 3 ∷ 5 ∷ 11 ∷ []
+kinds_of (calls.Exit now node) = 2 ∷ 3 ∷ []
+kinds_of (calls.PlanExit now words) = 2 ∷ 3 ∷ 14 ∷ 15 ∷ []
+kinds_of (calls.EndExit now outcome) = 2 ∷ 3 ∷ 5 ∷ 14 ∷ []
 kinds_of calls.Stop = []
+
+-- ---- what each call touches
+
+pub of-nodes : (kinds : List ℕ) (nodes : List Node) → is_among kinds 3 ≡ true → are_of kinds (map changes.Node nodes) ≡ true
+of-nodes kinds [] has = refl
+of-nodes kinds (node ∷ nodes) has = and_of _ _ has (of-nodes kinds nodes has)
+
+pub of-containments : (kinds : List ℕ) (rows : List Containment) → is_among kinds 12 ≡ true → are_of kinds (map changes.Containment rows) ≡ true
+of-containments kinds [] has = refl
+of-containments kinds (row ∷ rows) has = and_of _ _ has (of-containments kinds rows has)
+
+pub of-append : (kinds : List ℕ) (xs ys : List RecChange) → are_of kinds xs ≡ true → are_of kinds ys ≡ true → are_of kinds (xs ++ ys) ≡ true
+of-append kinds [] ys h k = k
+of-append kinds (x ∷ xs) ys h k = let parts = both (is_among kinds (kind_of x)) (are_of kinds xs) h in and_of _ _ parts.0 (of-append kinds xs ys parts.1 k)
 
 pub touched : (t : Tables) (call : Call) → are_of (kinds_of call) (case_of t call).changes ≡ true
 touched t (calls.AddNode now request addr port free) = grind (arith, nat_tests)
@@ -60,6 +86,20 @@ touched t (calls.Get now customer request segment) = grind (arith, nat_tests)
 touched t (calls.Delete now customer request segment) = grind (arith, nat_tests)
 touched t (calls.Settle now node bytes) = grind (arith, nat_tests)
 touched t (calls.SetFree now node free) = grind (arith, nat_tests)
+touched t (calls.PlanAudit now words) = grind (arith, nat_tests)
+touched t (calls.EndAudit now judged) =
+    let kinds = kinds_of (calls.EndAudit now judged) in
+    let some = of-append kinds (map changes.Node (nodes_after t judged)) (map changes.Containment (containments_after t judged)) (of-nodes kinds (nodes_after t judged) refl) (of-containments kinds (containments_after t judged) refl) in
+    grind (arith, nat_tests, some)
+touched t (calls.PlanRecheck now) = grind (arith, nat_tests)
+touched t (calls.EndRecheck now plan checked) = grind (arith, nat_tests)
+touched t (calls.PlanRepair now words) = grind (arith, nat_tests)
+touched t (calls.EndRepair now outcome) =
+    let some : (nodes : List Node) → are_of (kinds_of (calls.EndRepair now outcome)) (map changes.Node nodes) ≡ true = λ nodes. of-nodes (kinds_of (calls.EndRepair now outcome)) nodes refl in grind (arith, nat_tests, some)
+touched t (calls.Exit now node) = grind (arith, nat_tests)
+touched t (calls.PlanExit now words) = grind (arith, nat_tests)
+touched t (calls.EndExit now outcome) =
+    let some : (nodes : List Node) → are_of (kinds_of (calls.EndExit now outcome)) (map changes.Node nodes) ≡ true = λ nodes. of-nodes (kinds_of (calls.EndExit now outcome)) nodes refl in grind (arith, nat_tests, some)
 touched t calls.Stop = refl
 
 other-kind : (kinds : List ℕ) (kind own : ℕ) → is_among kinds kind ≡ true → is_among kinds own ≡ false → (kind == own) ≡ false
@@ -77,51 +117,97 @@ module _ {X : Type 0} (part : Tables → X) (own : ℕ) (leaves : (c : RecChange
       let parts = both (is_among kinds (kind_of c)) (are_of kinds cs) all in
       frame kinds cs (changed t c) parts.1 lacks ∙ leaves c t (other-kind kinds (kind_of c) own parts.0 lacks)
 
+leaves-nodes : (c : RecChange) (t : Tables) → (kind_of c == 3) ≡ false → (changed t c).nodes ≡ t.nodes
+leaves-nodes (changes.Node r) t other = cc
+leaves-nodes (changes.Remove (keys.Segment id)) t other = refl
+leaves-nodes (changes.Remove (keys.Plan kind)) t other = refl
+leaves-nodes (changes.Remove (keys.Containment node)) t other = refl
+leaves-nodes _ t other = refl
+
+-- changes of other kinds leave the nodes
+pub nodes-frame : (kinds : List ℕ) (cs : List RecChange) (t : Tables) → are_of kinds cs ≡ true → is_among kinds 3 ≡ false → (all_changed t cs).nodes ≡ t.nodes
+nodes-frame = frame (λ t. t.nodes) 3 leaves-nodes
+
 leaves-customers : (c : RecChange) (t : Tables) → (kind_of c == 4) ≡ false → (changed t c).customers ≡ t.customers
-leaves-customers (changes.Settings r) t other = refl
-leaves-customers (changes.Marks r) t other = refl
-leaves-customers (changes.Node r) t other = refl
 leaves-customers (changes.Customer r) t other = cc
-leaves-customers (changes.Segment r) t other = refl
-leaves-customers (changes.SettledRow r) t other = refl
-leaves-customers (changes.Tally r) t other = refl
-leaves-customers (changes.Statement r) t other = refl
-leaves-customers (changes.AuditPlan r) t other = refl
-leaves-customers (changes.RecheckPlan r) t other = refl
-leaves-customers (changes.RepairPlan r) t other = refl
-leaves-customers (changes.Containment r) t other = refl
-leaves-customers (changes.Kept r) t other = refl
-leaves-customers (changes.ExitPlan r) t other = refl
-leaves-customers (changes.Left r) t other = refl
-leaves-customers (changes.Tariff r) t other = refl
 leaves-customers (changes.Remove (keys.Segment id)) t other = refl
 leaves-customers (changes.Remove (keys.Plan kind)) t other = refl
 leaves-customers (changes.Remove (keys.Containment node)) t other = refl
+leaves-customers _ t other = refl
 
--- changes of other kinds leave the customers
+-- the customers
 pub customers-frame : (kinds : List ℕ) (cs : List RecChange) (t : Tables) → are_of kinds cs ≡ true → is_among kinds 4 ≡ false → (all_changed t cs).customers ≡ t.customers
 customers-frame = frame (λ t. t.customers) 4 leaves-customers
 
+leaves-segments : (c : RecChange) (t : Tables) → (kind_of c == 5) ≡ false → (changed t c).segments ≡ t.segments
+leaves-segments (changes.Segment r) t other = cc
+leaves-segments (changes.Remove (keys.Segment id)) t other = cc
+leaves-segments (changes.Remove (keys.Plan kind)) t other = refl
+leaves-segments (changes.Remove (keys.Containment node)) t other = refl
+leaves-segments _ t other = refl
+
+-- the segments
+pub segments-frame : (kinds : List ℕ) (cs : List RecChange) (t : Tables) → are_of kinds cs ≡ true → is_among kinds 5 ≡ false → (all_changed t cs).segments ≡ t.segments
+segments-frame = frame (λ t. t.segments) 5 leaves-segments
+
+leaves-audit : (c : RecChange) (t : Tables) → (kind_of c == 9) ≡ false → (changed t c).audit ≡ t.audit
+leaves-audit (changes.AuditPlan r) t other = cc
+leaves-audit (changes.Remove (keys.Segment id)) t other = refl
+leaves-audit (changes.Remove (keys.Plan kind)) t other = ap (λ (b : Bool). if b then None else t.audit) other
+leaves-audit (changes.Remove (keys.Containment node)) t other = refl
+leaves-audit _ t other = refl
+
+-- the open plans
+pub audit-frame : (kinds : List ℕ) (cs : List RecChange) (t : Tables) → are_of kinds cs ≡ true → is_among kinds 9 ≡ false → (all_changed t cs).audit ≡ t.audit
+audit-frame = frame (λ t. t.audit) 9 leaves-audit
+
+leaves-recheck : (c : RecChange) (t : Tables) → (kind_of c == 10) ≡ false → (changed t c).recheck ≡ t.recheck
+leaves-recheck (changes.RecheckPlan r) t other = cc
+leaves-recheck (changes.Remove (keys.Segment id)) t other = refl
+leaves-recheck (changes.Remove (keys.Plan kind)) t other = ap (λ (b : Bool). if b then None else t.recheck) other
+leaves-recheck (changes.Remove (keys.Containment node)) t other = refl
+leaves-recheck _ t other = refl
+
+pub recheck-frame : (kinds : List ℕ) (cs : List RecChange) (t : Tables) → are_of kinds cs ≡ true → is_among kinds 10 ≡ false → (all_changed t cs).recheck ≡ t.recheck
+recheck-frame = frame (λ t. t.recheck) 10 leaves-recheck
+
+leaves-repair : (c : RecChange) (t : Tables) → (kind_of c == 11) ≡ false → (changed t c).repair ≡ t.repair
+leaves-repair (changes.RepairPlan r) t other = cc
+leaves-repair (changes.Remove (keys.Segment id)) t other = refl
+leaves-repair (changes.Remove (keys.Plan kind)) t other = ap (λ (b : Bool). if b then None else t.repair) other
+leaves-repair (changes.Remove (keys.Containment node)) t other = refl
+leaves-repair _ t other = refl
+
+pub repair-frame : (kinds : List ℕ) (cs : List RecChange) (t : Tables) → are_of kinds cs ≡ true → is_among kinds 11 ≡ false → (all_changed t cs).repair ≡ t.repair
+repair-frame = frame (λ t. t.repair) 11 leaves-repair
+
+leaves-exit : (c : RecChange) (t : Tables) → (kind_of c == 14) ≡ false → (changed t c).exit ≡ t.exit
+leaves-exit (changes.ExitPlan r) t other = cc
+leaves-exit (changes.Remove (keys.Segment id)) t other = refl
+leaves-exit (changes.Remove (keys.Plan kind)) t other = ap (λ (b : Bool). if b then None else t.exit) other
+leaves-exit (changes.Remove (keys.Containment node)) t other = refl
+leaves-exit _ t other = refl
+
+pub exit-frame : (kinds : List ℕ) (cs : List RecChange) (t : Tables) → are_of kinds cs ≡ true → is_among kinds 14 ≡ false → (all_changed t cs).exit ≡ t.exit
+exit-frame = frame (λ t. t.exit) 14 leaves-exit
+
+leaves-containments : (c : RecChange) (t : Tables) → (kind_of c == 12) ≡ false → (changed t c).containments ≡ t.containments
+leaves-containments (changes.Containment r) t other = cc
+leaves-containments (changes.Remove (keys.Containment node)) t other = cc
+leaves-containments (changes.Remove (keys.Segment id)) t other = refl
+leaves-containments (changes.Remove (keys.Plan kind)) t other = refl
+leaves-containments _ t other = refl
+
+-- the containments
+pub containments-frame : (kinds : List ℕ) (cs : List RecChange) (t : Tables) → are_of kinds cs ≡ true → is_among kinds 12 ≡ false → (all_changed t cs).containments ≡ t.containments
+containments-frame = frame (λ t. t.containments) 12 leaves-containments
+
 leaves-kept : (c : RecChange) (t : Tables) → (kind_of c == 13) ≡ false → (changed t c).kept ≡ t.kept
-leaves-kept (changes.Settings r) t other = refl
-leaves-kept (changes.Marks r) t other = refl
-leaves-kept (changes.Node r) t other = refl
-leaves-kept (changes.Customer r) t other = refl
-leaves-kept (changes.Segment r) t other = refl
-leaves-kept (changes.SettledRow r) t other = refl
-leaves-kept (changes.Tally r) t other = refl
-leaves-kept (changes.Statement r) t other = refl
-leaves-kept (changes.AuditPlan r) t other = refl
-leaves-kept (changes.RecheckPlan r) t other = refl
-leaves-kept (changes.RepairPlan r) t other = refl
-leaves-kept (changes.Containment r) t other = refl
 leaves-kept (changes.Kept r) t other = cc
-leaves-kept (changes.ExitPlan r) t other = refl
-leaves-kept (changes.Left r) t other = refl
-leaves-kept (changes.Tariff r) t other = refl
 leaves-kept (changes.Remove (keys.Segment id)) t other = refl
 leaves-kept (changes.Remove (keys.Plan kind)) t other = refl
 leaves-kept (changes.Remove (keys.Containment node)) t other = refl
+leaves-kept _ t other = refl
 
 -- and the kept requests
 pub kept-frame : (kinds : List ℕ) (cs : List RecChange) (t : Tables) → are_of kinds cs ≡ true → is_among kinds 13 ≡ false → (all_changed t cs).kept ≡ t.kept

@@ -1,19 +1,41 @@
--- Valid tables are steady, and steady ones are valid.
-use Rattle.std.proofs.Common.{◌≡◌, ℕ, Bool, List, [], ◌∷◌, ◌++◌, Some, None, refl, sym, ap, subst, ◌∙◌, arith}
-use Rattle.std.specs.Prelude.{map, filter, not}
-use Rattle.std.proofs.lemmas.List.{append-nil}
-use Rattle.sat_base.specs.Ranks.{containment_rank}
-use Rattle.rows.specs.Rows.{IsRising}
+-- Valid tables are steady, and steady ones whose containments all stand are valid.
+use Rattle.std.proofs.Common.{◌≡◌, ℕ, Bool, true, List, [], ◌∷◌, Option, Some, None, IfSome, is_some, refl, sym, ap, subst, ◌∙◌, arith}
+use Rattle.std.specs.Prelude.{nat_lt, ◌&&◌, filter}
+use Rattle.std.specs.List.{list_all}
+use Rattle.std.proofs.lemmas.Bool.Decides.{nat_tests}
+use Rattle.sat_base.specs.declared.records.At.{At}
 use Rattle.sat_base.specs.declared.records.Containment.{Containment}
-use Rattle.machine_calls.specs.declared.change.RecChange.{RecChange}
+use Rattle.node_registry.specs.Registry.{node_at}
+use Rattle.rows.specs.Rows.{IsRising}
 use Rattle.tally_payout.specs.Ranks.{tally_rank, statement_rank}
-use Rattle.node_registry.specs.Left.{left_rank}
-use Rattle.machine_step.specs.Tables.{Tables, all_changed}
-use Rattle.machine_step.specs.Containment.{stands, fallen, release, with_releases}
+use Rattle.segment_core.specs.Record.{SegmentRecord, segment_rank}
+use Rattle.machine_calls.specs.declared.change.RecChange.{RecChange}
+use Rattle.machine_step.specs.Tables.{Tables, segment_at, all_changed}
+use Rattle.machine_step.specs.Containment.{stands, place_of, has_live_piece, serves, with_releases}
 use Rattle.machine_step.specs.Rules.{is_sound_segment, is_sound_settled, is_sound_kept}
-use Rattle.machine_step.specs.Bounds.{IsValid}
-use Rattle.machine_step.proofs.RowLemmas.{capped-all, capped-length, capped-back, plain-all, plain-back}
-use Rattle.machine_step.proofs.Steady.{SegmentsHold, IsSteady, GrowsTo, Becomes, grows_self}
+use Rattle.machine_step.specs.PlanRules.{is_none_or, is_sound_audit, is_sound_recheck, is_sound_repair, is_sound_exit, is_owed}
+use Rattle.machine_step.specs.Bounds.{IsAuditWithin, IsRepairWithin, IsExitWithin, IsValid}
+use Rattle.machine_step.proofs.RowLemmas.{all-found, found_rank, capped-all, capped-length, capped-back, plain-all, plain-back, all-weaker, both, and_of}
+use Rattle.machine_step.proofs.GrowthLemmas.{fine}
+use Rattle.machine_step.proofs.ReleaseLemmas.{left_of, releases_are, left_standing, rising-filtered, all-kept}
+use Rattle.machine_step.proofs.PieceLemmas.{all-filtered}
+use Rattle.machine_step.proofs.LeftLemmas.{lefts-kept, kept-lefts}
+use Rattle.machine_step.proofs.Hold.{SegmentsHold, AuditHolds, RecheckHolds, RepairHolds, ExitHolds}
+use Rattle.machine_step.proofs.Steady.{IsSteady, GrowsTo, grows_self}
+use Rattle.machine_step.proofs.Changes.{Becomes, some_map, steady_containments}
+
+-- a plan that is sound, in parts
+all_some : {X : Type 0} (test : X → Bool) (P W : X → Type 0) (found : Option X) → is_none_or test found ≡ true → IfSome found W → ((x : X) → test x ≡ true → W x → P x) → IfSome found P
+all_some test P W None sound within so = tt
+all_some test P W (Some x) sound within so = so x sound within
+
+always : {X : Type 0} (found : Option X) → IfSome found (λ x. Unit {0})
+always None = tt
+always (Some x) = tt
+
+some_all : {X : Type 0} (test : X → Bool) (P : X → Type 0) (found : Option X) → IfSome found P → ((x : X) → P x → test x ≡ true) → is_none_or test found ≡ true
+some_all test P None h so = refl
+some_all test P (Some x) h so = so x h
 
 module _ (t : Tables) (v : IsValid t) where
   pub segments_hold : SegmentsHold t.setup t.marks t.nodes t.customers t.segments
@@ -23,6 +45,24 @@ module _ (t : Tables) (v : IsValid t) where
     rising = v.order.segments;
     within = v.bounds.segments;
   }
+
+  -- a segment that is found was numbered
+  below-found : (id : ℕ) (found : Option SegmentRecord) → segment_at t.segments id ≡ found → is_some found ≡ true → nat_lt id t.marks.segment ≡ true
+  below-found id None at some = cc
+  below-found id (Some found) at some =
+      let same : found.id.0 ≡ id = found_rank segment_rank t.segments id found at in
+      let f = fine t.setup t.marks t.nodes t.customers found (all-found segment_rank (is_sound_segment t.setup t.marks t.nodes t.customers) t.segments id found segments_hold.all at) in
+      ap (λ (k : ℕ). nat_lt k t.marks.segment) (sym same) ∙ f.below
+
+  live-some : (found : Option SegmentRecord) (place : At) → has_live_piece found place ≡ true → is_some found ≡ true
+  live-some None place h = cc
+  live-some (Some found) place h = refl
+
+  contained_parts : list_all (λ c. stands t c && is_owed t.setup t.segments c) t.containments ≡ true
+  contained_parts = plain-all (λ c. stands t c && is_owed t.setup t.segments c) t.containments 0 v.rules.containments
+
+  pub all_stand : list_all (stands t) t.containments ≡ true
+  all_stand = all-weaker (λ c. stands t c && is_owed t.setup t.segments c) (stands t) (λ c h. (both (stands t c) (is_owed t.setup t.segments c) h).0) t.containments contained_parts
 
   pub steady_of : IsSteady t.marks.segment t
   steady_of = record {
@@ -40,13 +80,21 @@ module _ (t : Tables) (v : IsValid t) where
     };
     tallies = v.rules.tallies;
     statements = v.rules.statements;
-    audit = v.rules.audit;
-    recheck = v.rules.recheck;
-    repair = v.rules.repair;
-    containments = v.rules.containments;
     kept = record { all = plain-all (is_sound_kept t.marks t.nodes t.customers) t.kept 0 v.rules.kept; rising = v.order.kept; within = v.bounds.kept };
-    exit = v.rules.exit;
-    left = v.rules.left;
+    audit = all_some (is_sound_audit t.setup t.marks t.segments) (AuditHolds t.marks.segment t.setup t.marks t.segments) IsAuditWithin t.audit v.rules.audit v.bounds.audit
+        (λ plan sound within. record { sound = sound; below = grind (arith, nat_tests, sound); within = within });
+    recheck = all_some (is_sound_recheck t.marks t.nodes) (RecheckHolds t.marks t.nodes) (λ plan. Unit {0}) t.recheck v.rules.recheck (always t.recheck) (λ plan sound within. record { sound = sound });
+    repair = all_some (is_sound_repair t.setup t.marks t.nodes t.segments) (RepairHolds t.marks.segment t.setup t.marks t.nodes t.segments) IsRepairWithin t.repair v.rules.repair v.bounds.repair
+        (λ plan sound within. record { sound = sound; below = grind (arith, nat_tests, sound); within = within });
+    containments = record {
+      owed = all-weaker (λ c. stands t c && is_owed t.setup t.segments c) (is_owed t.setup t.segments) (λ c h. (both (stands t c) (is_owed t.setup t.segments c) h).1) t.containments contained_parts;
+      below = all-weaker (stands t) (λ c. nat_lt c.segment.0 t.marks.segment)
+          (λ c h. below-found c.segment.0 (segment_at t.segments c.segment.0) refl (live-some (segment_at t.segments c.segment.0) (place_of c) (both (serves (node_at t.nodes c.node)) (has_live_piece (segment_at t.segments c.segment.0) (place_of c)) h).1)) t.containments all_stand;
+      rising = v.order.containments;
+    };
+    exit = all_some (is_sound_exit t.setup t.marks t.nodes t.segments) (ExitHolds t.marks.segment t.setup t.marks t.nodes t.segments) IsExitWithin t.exit v.rules.exit v.bounds.exit
+        (λ exit sound within. record { sound = sound; below = grind (arith, nat_tests, sound); within = within });
+    left = let kept = lefts-kept t.marks t.nodes t.left v.rules.left in record { all = kept.0; accounted = kept.1; rising = v.order.left };
     tariffs = v.rules.tariffs;
     tariffs_rising = v.order.tariffs;
     tariffs_within = v.bounds.tariffs;
@@ -55,9 +103,9 @@ module _ (t : Tables) (v : IsValid t) where
 rising_none : {R : Type 0} (rank : R → ℕ) (rows : List R) → rows ≡ [] → IsRising rank rows
 rising_none rank rows is = subst (IsRising rank) (sym is) tt
 
--- steady tables are valid, whatever the mark of stopping
-pub valid_of : (from : ℕ) (t : Tables) (stopped : Bool) → IsSteady from t → IsValid (record t { stopped = stopped })
-valid_of from t stopped s = record {
+-- steady tables whose containments stand are valid, whatever the mark of stopping
+pub valid_of : (from : ℕ) (t : Tables) (stopped : Bool) → IsSteady from t → list_all (stands t) t.containments ≡ true → IsValid (record t { stopped = stopped })
+valid_of from t stopped s stand = record {
   rules = record {
     marks = s.marks;
     nodes = s.nodes;
@@ -66,54 +114,62 @@ valid_of from t stopped s = record {
     settled = capped-back t.setup.caps.settled (is_sound_settled t.marks t.nodes) t.settled 0 s.settled.all (omega (arith, s.settled.few));
     tallies = s.tallies;
     statements = s.statements;
-    audit = s.audit;
-    recheck = s.recheck;
-    repair = s.repair;
-    containments = s.containments;
     kept = plain-back (is_sound_kept t.marks t.nodes t.customers) t.kept 0 s.kept.all;
-    exit = s.exit;
-    left = s.left;
+    audit = some_all (is_sound_audit t.setup t.marks t.segments) (AuditHolds from t.setup t.marks t.segments) t.audit s.audit (λ plan h. h.sound);
+    recheck = some_all (is_sound_recheck t.marks t.nodes) (RecheckHolds t.marks t.nodes) t.recheck s.recheck (λ plan h. h.sound);
+    repair = some_all (is_sound_repair t.setup t.marks t.nodes t.segments) (RepairHolds from t.setup t.marks t.nodes t.segments) t.repair s.repair (λ plan h. h.sound);
+    containments = plain-back (λ c. stands t c && is_owed t.setup t.segments c) t.containments 0 (all-both t.containments stand s.containments.owed);
+    exit = some_all (is_sound_exit t.setup t.marks t.nodes t.segments) (ExitHolds from t.setup t.marks t.nodes t.segments) t.exit s.exit (λ exit h. h.sound);
+    left = kept-lefts t.marks t.nodes t.left s.left.all s.left.accounted;
     tariffs = s.tariffs;
   };
-  order = record {
-    segments = s.segments.rising;
-    settled = s.settled.rising;
-    tallies = rising_none tally_rank t.tallies s.tallies;
-    statements = rising_none statement_rank t.statements s.statements;
-    containments = rising_none containment_rank t.containments s.containments;
-    kept = s.kept.rising;
-    left = rising_none left_rank t.left s.left;
-    tariffs = s.tariffs_rising;
-  };
+  order = record { segments = s.segments.rising; settled = s.settled.rising; tallies = rising_none tally_rank t.tallies s.tallies; statements = rising_none statement_rank t.statements s.statements; kept = s.kept.rising; containments = s.containments.rising; left = s.left.rising; tariffs = s.tariffs_rising };
   bounds = record {
     setup = s.setup;
     marks = s.marks_within;
     segments = s.segments.within;
     kept = s.kept.within;
+    audit = some_map (AuditHolds from t.setup t.marks t.segments) IsAuditWithin t.audit (λ plan h. h.within) s.audit;
+    repair = some_map (RepairHolds from t.setup t.marks t.nodes t.segments) IsRepairWithin t.repair (λ plan h. h.within) s.repair;
+    exit = some_map (ExitHolds from t.setup t.marks t.nodes t.segments) IsExitWithin t.exit (λ exit h. h.within) s.exit;
     tariffs = s.tariffs_within;
   };
 }
+  where
+    all-both : (rows : List Containment) → list_all (stands t) rows ≡ true → list_all (is_owed t.setup t.segments) rows ≡ true → list_all (λ c. stands t c && is_owed t.setup t.segments c) rows ≡ true
+    all-both [] h k = refl
+    all-both (c ∷ rows) h k =
+        let hs = both (stands t c) (list_all (stands t) rows) h in
+        let ks = both (is_owed t.setup t.segments c) (list_all (is_owed t.setup t.segments) rows) k in
+        and_of _ _ (and_of _ _ hs.0 ks.0) (all-both rows hs.1 ks.1)
 
--- where no containment is, none falls
-none_fallen : (t : Tables) → t.containments ≡ [] → fallen t ≡ []
-none_fallen t none = ap (λ (rows : List Containment). filter (λ c. not (stands t c)) rows) none
-
--- changes that lead to steady tables release nothing
-pub unreleased : (from : ℕ) (t : Tables) (cs : List RecChange) → IsSteady from (all_changed t cs) → with_releases t cs ≡ cs
-unreleased from t [] s = refl
-unreleased from t (c ∷ cs) s =
-    ap (λ (rows : List Containment). (c ∷ cs) ++ map release rows) (none_fallen (all_changed t (c ∷ cs)) s.containments) ∙ append-nil (c ∷ cs)
+-- the containments that are left are steady
+steady_left : (from : ℕ) (t : Tables) (s : IsSteady from t) → IsSteady from (record t { containments = filter (stands t) t.containments })
+steady_left from t s =
+    steady_containments from t s (filter (stands t) t.containments) (record {
+      owed = all-filtered (is_owed t.setup t.segments) (stands t) t.containments s.containments.owed;
+      below = all-filtered (λ c. nat_lt c.segment.0 from) (stands t) t.containments s.containments.below;
+      rising = rising-filtered (stands t) t.containments s.containments.rising;
+    })
 
 -- what a step makes of the tables
 pub record Follows (t t' : Tables) : Type 0 where
   pub valid : IsValid t'
   pub grows : GrowsTo t.marks.segment t t'
 
--- an outcome whose changes keep what holds makes valid tables
-pub follows : (t : Tables) (stops : Bool) (cs : List RecChange) → Becomes t.marks.segment t (all_changed t cs)
-    → Follows t (record (all_changed t (with_releases t cs)) { stopped = stops })
-follows t stops cs b =
-    subst (λ (changes : List RecChange). Follows t (record (all_changed t changes) { stopped = stops })) (sym (unreleased t.marks.segment t cs b.steady)) (record {
-      valid = valid_of t.marks.segment (all_changed t cs) stops b.steady;
+-- an outcome whose changes keep what holds makes valid tables, once it is swept
+pub follows : (t : Tables) (v : IsValid t) (reply_stops : Bool) (cs : List RecChange) → Becomes t.marks.segment t (all_changed t cs)
+    → Follows t (record (all_changed t (with_releases t cs)) { stopped = reply_stops })
+follows t v stops [] b = record { valid = valid_of t.marks.segment t stops (steady_of t v) (all_stand t v); grows = regrown t t (grows_self t.marks.segment t) }
+  where
+    regrown : (t t' : Tables) → GrowsTo t.marks.segment t t' → GrowsTo t.marks.segment t (record t' { stopped = stops })
+    regrown t t' g = record { setup = g.setup; later = g.later; extends = g.extends; stay = g.stay; segments = g.segments }
+follows t v stops (c ∷ cs) b =
+    let next = all_changed t (c ∷ cs) in
+    let left : left_of t (c ∷ cs) ≡ filter (stands next) next.containments = left_standing t c cs b.steady.containments.rising in
+    let same : all_changed t (with_releases t (c ∷ cs)) ≡ record next { containments = filter (stands next) next.containments }
+    = releases_are t (c ∷ cs) ∙ ap (λ (rows : List Containment). record next { containments = rows }) left in
+    subst (λ (x : Tables). Follows t (record x { stopped = stops })) (sym same) (record {
+      valid = valid_of t.marks.segment (record next { containments = filter (stands next) next.containments }) stops (steady_left t.marks.segment next b.steady) (all-kept (stands next) next.containments);
       grows = record { setup = b.grows.setup; later = b.grows.later; extends = b.grows.extends; stay = b.grows.stay; segments = b.grows.segments };
     })

@@ -1,12 +1,17 @@
 -- The bounds of each record beside the rules. What isn't bounded here is bounded by its type, or by a rule: moments are at most the greatest one, and indexes of pieces are below n.
-use Rattle.std.specs.Prelude.{ℕ, ◌^◌, ◌<◌, ◌≤◌, List, [], ◌∷◌, length}
+use Rattle.std.specs.Prelude.{◌≡◌, ◌≤◌, true, List, [], ◌∷◌, length, IfSome}
 use Rattle.sat_base.specs.declared.limits.TheConstants as limits
 use Rattle.sat_base.specs.Scheme.{IsScheme}
 use Rattle.sat_base.specs.Limits.{IsMonthWithin, AreCapsWithin, AreMarksWithin, IsKeptWithin, IsTariffWithin}
+use Rattle.sat_base.specs.declared.records.At.{At}
+use Rattle.audit_core.specs.declared.plan.AuditPlan.{AuditPlan}
+use Rattle.repair_core.specs.declared.plan.RepairPlan.{RepairPlan}
+use Rattle.repair_core.specs.declared.plan.ExitPlan.{ExitPlan}
 use Rattle.segment_core.specs.Record.{SegmentRecord}
 use Rattle.segment_core.specs.Places.{IsByIndex}
 use Rattle.machine_step.specs.Tables.{Setup, Tables}
-use Rattle.machine_step.specs.Rules.{IsSound, IsOrdered}
+use Rattle.machine_step.specs.Rules.{are_below}
+use Rattle.machine_step.specs.Sound.{IsSound, IsOrdered}
 
 -- each row of a list
 abbrev pub Each : {R : Type 0} → (R → Type 0) → List R → Type 0
@@ -25,11 +30,30 @@ pub record IsSegmentWithin (segment : SegmentRecord) : Type 0 where
   pub by_index : IsByIndex segment.pieces
   pub few : length segment.pieces ≤ limits.PLACES
 
+-- the places of a plan stand by index, at most 128 of them, and their indexes are below 128
+pub record ArePlacesWithin (places : List At) : Type 0 where
+  pub by_index : IsByIndex places
+  pub few : length places ≤ limits.PLACES
+  pub below : are_below limits.PLACES places ≡ true
+
+abbrev pub IsAuditWithin : AuditPlan → Type 0
+IsAuditWithin plan = ArePlacesWithin plan.asked
+
+pub record IsRepairWithin (plan : RepairPlan) : Type 0 where
+  pub sources : ArePlacesWithin plan.sources
+  pub targets : ArePlacesWithin plan.targets
+
+abbrev pub IsExitWithin : ExitPlan → Type 0
+IsExitWithin exit = IsRepairWithin exit.plan
+
 pub record AreWithin (t : Tables) : Type 0 where
   pub setup : IsSetupWithin t.setup
   pub marks : AreMarksWithin t.marks
   pub segments : Each IsSegmentWithin t.segments
+  pub audit : IfSome t.audit IsAuditWithin
+  pub repair : IfSome t.repair IsRepairWithin
   pub kept : Each IsKeptWithin t.kept
+  pub exit : IfSome t.exit IsExitWithin
   pub tariffs : Each IsTariffWithin t.tariffs
 
 -- what holds of the tables at every moment: their rules, the order of their rows, and the bounds of their records

@@ -1,5 +1,5 @@
 -- The containment rule: after every step, a containment whose footing is gone is gone too.
-use Rattle.std.specs.Prelude.{ℕ, ◌==◌, ◌&&◌, Bool, false, not, List, [], ◌∷◌, ◌++◌, map, filter, Option, Some, None}
+use Rattle.std.specs.Prelude.{◌==◌, ◌&&◌, Bool, false, not, List, [], ◌∷◌, ◌++◌, map, filter, Option, Some, None}
 use Rattle.std.specs.List.{list_any}
 use Rattle.sat_base.specs.declared.records.At.{At}
 use Rattle.sat_base.specs.declared.records.Containment.{Containment}
@@ -37,8 +37,11 @@ abbrev pub place_of : Containment → At
 place_of containment = record { index = containment.index; node = containment.node }
 
 -- a containment stands while its node serves and its piece is one of a live segment
+abbrev pub stands_in : List Node → List SegmentRecord → Containment → Bool
+stands_in nodes segments containment = serves (node_at nodes containment.node) && has_live_piece (segment_at segments containment.segment.0) (place_of containment)
+
 abbrev pub stands : Tables → Containment → Bool
-stands t containment = serves (node_at t.nodes containment.node) && has_live_piece (segment_at t.segments containment.segment.0) (place_of containment)
+stands t containment = stands_in t.nodes t.segments containment
 
 -- those that don't stand
 abbrev pub fallen : Tables → List Containment

@@ -2,8 +2,14 @@ pub mod Tables
 pub mod Outcome
 pub mod Places
 pub mod Containment
+pub mod Health
+pub mod Plans
+pub mod Mending
 pub mod Calls
 pub mod Step
 pub mod Rules
+pub mod PlanRules
+pub mod Sound
+pub mod Broken
 pub mod Bounds
 pub mod Writable

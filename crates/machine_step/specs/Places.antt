@@ -1,10 +1,11 @@
 -- The places of pieces: those that a placement picks, and where uplinks find them.
-use Rattle.std.specs.Prelude.{ℕ, zero, suc, ◌+◌, ◌-◌, ◌*◌, ◌/◌, List, [], ◌∷◌, ◌++◌, length, map, Option, Some, None}
+use Rattle.std.specs.Prelude.{ℕ, zero, suc, ◌-◌, List, [], ◌∷◌, ◌++◌, length, map, Option, Some, None}
 use Rattle.sat_base.specs.declared.ids.NodeId.{NodeId}
 use Rattle.sat_base.specs.declared.records.At.{At}
 use Rattle.sat_base.specs.declared.requests.Place.{Place}
 use Rattle.node_registry.specs.declared.node.Node.{Node}
 use Rattle.node_registry.specs.Registry.{node_at}
+use Rattle.node_registry.specs.Subnet.{subnet_at}
 use Rattle.placement.specs.declared.request.Class.{Class}
 use Rattle.placement.specs.declared.request.Class.TheVariants.{Vetted, Unvetted}
 use Rattle.placement.specs.Eligible.{Terms, next_pick}
@@ -52,3 +53,7 @@ place_at nodes piece = record {
 
 abbrev pub places_of : List Node → List At → List Place
 places_of nodes pieces = map (place_at nodes) pieces
+
+-- the subnets of the nodes that pieces lie on
+abbrev pub subnets_of : List Node → List At → List ℕ
+subnets_of nodes pieces = map (λ piece. subnet_at (addr_of (node_at nodes piece.node))) pieces

@@ -1,13 +1,10 @@
--- The rules that the tables keep at every moment, and the first of them that given tables break.
-use Rattle.std.specs.Prelude.{◌≡◌, ℕ, suc, ◌+◌, ◌/◌, ◌^◌, Bool, true, false, ◌==◌, ◌&&◌, ◌||◌, not, nat_lt, nat_le, if◌then◌else◌, List, [], ◌∷◌, ◌++◌, length, map, min, Option, Some, None, is_some, is_none}
-use Rattle.std.specs.Option.{option_map}
+-- The rules of marks, nodes, customers, segments, settled rows, kept requests and tariffs.
+use Rattle.std.specs.Prelude.{ℕ, suc, ◌+◌, ◌/◌, Bool, true, false, ◌==◌, ◌&&◌, ◌||◌, not, nat_lt, nat_le, if◌then◌else◌, List, [], ◌∷◌, ◌++◌, length, min, Option, Some, None, is_some}
 use Rattle.std.specs.List.{list_any, list_all}
-use Rattle.std.specs.Int.{w32, w64, to_be_bytes}
 use Rattle.sat_base.specs.declared.limits.TheConstants as limits
 use Rattle.sat_base.specs.declared.ids.NodeId.{NodeId}
 use Rattle.sat_base.specs.declared.ids.CustomerId.{CustomerId}
 use Rattle.sat_base.specs.declared.records.At.{At}
-use Rattle.sat_base.specs.declared.records.Containment.{Containment}
 use Rattle.sat_base.specs.declared.settings.Marks.{Marks}
 use Rattle.sat_base.specs.declared.settings.Customer.{Customer}
 use Rattle.sat_base.specs.declared.requests.Asked.{Asked}
@@ -18,23 +15,14 @@ use Rattle.sat_base.specs.declared.requests.Offer.{Offer}
 use Rattle.sat_base.specs.declared.requests.Kept.{Kept}
 use Rattle.sat_base.specs.declared.rates.Tariff.{Tariff}
 use Rattle.sat_base.specs.Month.{first_day}
-use Rattle.sat_base.specs.Ranks.{containment_rank, tariff_rank, kept_rank}
-use Rattle.rows.specs.Rows.{row_at, IsRising}
+use Rattle.sat_base.specs.Ranks.{tariff_rank}
+use Rattle.rows.specs.Rows.{row_at}
 use Rattle.node_registry.specs.declared.node.Node.{Node}
-use Rattle.node_registry.specs.declared.node.Left.{Left}
 use Rattle.node_registry.specs.Registry.{node_at}
-use Rattle.node_registry.specs.Subnet.{subnet_at}
-use Rattle.segment_core.specs.Record.{SegmentRecord, segment_rank}
+use Rattle.segment_core.specs.Record.{SegmentRecord}
 use Rattle.settlement.specs.declared.row.SettledRow.{SettledRow}
-use Rattle.settlement.specs.Rows.{key}
-use Rattle.tally_payout.specs.declared.amounts.Tally.{Tally}
-use Rattle.tally_payout.specs.declared.amounts.Statement.{Statement}
-use Rattle.sat_base.specs.declared.kinds.TheConstants as kinds
-use Rattle.machine_calls.specs.declared.rules.TheConstants as rules
-use Rattle.tally_payout.specs.Ranks.{tally_rank, statement_rank}
-use Rattle.node_registry.specs.Left.{left_rank}
-use Rattle.machine_step.specs.Tables.{Setup, Tables, is_no_size, customer_at}
-use Rattle.machine_step.specs.Places.{addr_of}
+use Rattle.machine_step.specs.Tables.{Setup, is_no_size, customer_at}
+use Rattle.machine_step.specs.Places.{subnets_of}
 
 -- the first row that breaks a rule, which may speak of the row's place; places begin at i
 abbrev pub first_bad : {R : Type 0} → (ℕ → R → Bool) → ℕ → List R → Option R
@@ -82,10 +70,6 @@ breaks_customer setup marks i customer =
 
 abbrev pub are_known : List Node → List At → Bool
 are_known nodes pieces = list_all (λ piece. is_known nodes piece.node) pieces
-
--- the subnets of the nodes that pieces lie on
-abbrev pub subnets_of : List Node → List At → List ℕ
-subnets_of nodes pieces = map (λ piece. subnet_at (addr_of (node_at nodes piece.node))) pieces
 
 -- none comes twice
 abbrev pub are_apart : List ℕ → Bool
@@ -189,129 +173,3 @@ least (x ∷ rest) = Some (least_with x (least rest))
 -- the first month whose tariff breaks the rule or is missing
 abbrev pub bad_tariff : ℕ → List Tariff → Option ℕ
 bad_tariff first tariffs = least (bad_tariffs first 0 tariffs ++ missing_tariff first tariffs)
-
--- ---- rules 6 to 9, 11 and 12: no call keeps records of these kinds yet, so that there is none
-
-abbrev pub first_of : {R : Type 0} → List R → Option R
-first_of [] = None
-first_of (row ∷ rest) = Some row
-
--- ---- all of them
-
--- the tables keep every rule
-pub record IsSound (t : Tables) : Type 0 where
-  pub marks : are_sound_marks t.setup t.marks ≡ true
-  pub nodes : first_bad (breaks_node t.setup t.marks) 0 t.nodes ≡ None
-  pub customers : first_bad (breaks_customer t.setup t.marks) 0 t.customers ≡ None
-  pub segments : first_bad (breaks_segment t.setup t.marks t.nodes t.customers) 0 t.segments ≡ None
-  pub settled : first_bad (breaks_settled t.setup t.marks t.nodes) 0 t.settled ≡ None
-  pub tallies : t.tallies ≡ []
-  pub statements : t.statements ≡ []
-  pub audit : t.audit ≡ None
-  pub recheck : t.recheck ≡ None
-  pub repair : t.repair ≡ None
-  pub containments : t.containments ≡ []
-  pub kept : first_bad (breaks_kept t.marks t.nodes t.customers) 0 t.kept ≡ None
-  pub exit : t.exit ≡ None
-  pub left : t.left ≡ []
-  pub tariffs : bad_tariff t.setup.first_month t.tariffs ≡ None
-
--- the rows stand in the order of their ids
-pub record IsOrdered (t : Tables) : Type 0 where
-  pub segments : IsRising segment_rank t.segments
-  pub settled : IsRising key t.settled
-  pub tallies : IsRising tally_rank t.tallies
-  pub statements : IsRising statement_rank t.statements
-  pub containments : IsRising containment_rank t.containments
-  pub kept : IsRising kept_rank t.kept
-  pub left : IsRising left_rank t.left
-  pub tariffs : IsRising tariff_rank t.tariffs
-
--- a rule that is broken, and the first record that breaks it: its kind, and its id's bytes
-pub record Broken : Type 0 where
-  pub rule : ℕ
-  pub kind : ℕ
-  pub id : List ℕ
-
-abbrev pub broken : ℕ → ℕ → List ℕ → Broken
-broken rule kind id = record { rule = rule; kind = kind; id = id }
-
-abbrev pub or_else : Option Broken → Option Broken → Option Broken
-or_else None other = other
-or_else (Some first) other = Some first
-
--- ---- the id of a record, in bytes
-
-abbrev pub settled_id : SettledRow → List ℕ
-settled_id row = to_be_bytes w64 row.serial.0 ++ to_be_bytes w32 row.node.0
-
-abbrev pub tally_id : Tally → List ℕ
-tally_id tally = to_be_bytes w64 tally.hour.0 ++ to_be_bytes w32 tally.node.0
-
-abbrev pub statement_id : Statement → List ℕ
-statement_id statement = to_be_bytes w32 statement.month.0 ++ to_be_bytes w32 statement.node.0
-
--- ---- the first record that breaks each rule
-
-abbrev pub broken_marks : Setup → Marks → Option Broken
-broken_marks setup marks = if are_sound_marks setup marks then None else Some (broken rules.MARKS kinds.MARKS [])
-
-abbrev pub broken_nodes : Setup → Marks → List Node → Option Broken
-broken_nodes setup marks nodes = option_map (λ node. broken rules.NODES kinds.NODE (to_be_bytes w32 node.id.0)) (first_bad (breaks_node setup marks) 0 nodes)
-
-abbrev pub broken_customers : Setup → Marks → List Customer → Option Broken
-broken_customers setup marks customers =
-    option_map (λ customer. broken rules.CUSTOMERS kinds.CUSTOMER (to_be_bytes w32 customer.id.0)) (first_bad (breaks_customer setup marks) 0 customers)
-
-abbrev pub broken_segments : Setup → Marks → List Node → List Customer → List SegmentRecord → Option Broken
-broken_segments setup marks nodes customers segments =
-    option_map (λ segment. broken rules.SEGMENTS kinds.SEGMENT (to_be_bytes w64 segment.id.0)) (first_bad (breaks_segment setup marks nodes customers) 0 segments)
-
-abbrev pub broken_settled : Setup → Marks → List Node → List SettledRow → Option Broken
-broken_settled setup marks nodes rows = option_map (λ row. broken rules.SETTLED kinds.SETTLED_ROW (settled_id row)) (first_bad (breaks_settled setup marks nodes) 0 rows)
-
-abbrev pub broken_tallies : List Tally → Option Broken
-broken_tallies tallies = option_map (λ tally. broken rules.TALLIES kinds.TALLY (tally_id tally)) (first_of tallies)
-
-abbrev pub broken_statements : List Statement → Option Broken
-broken_statements statements = option_map (λ statement. broken rules.STATEMENTS kinds.STATEMENT (statement_id statement)) (first_of statements)
-
-abbrev pub broken_plan : {P : Type 0} → ℕ → ℕ → Option P → Option Broken
-broken_plan rule kind plan = option_map (λ _. broken rule kind []) plan
-
-abbrev pub broken_containments : List Containment → Option Broken
-broken_containments containments = option_map (λ containment. broken rules.CONTAINMENTS kinds.CONTAINMENT (to_be_bytes w32 containment.node.0)) (first_of containments)
-
-abbrev pub broken_kept : Marks → List Node → List Customer → List Kept → Option Broken
-broken_kept marks nodes customers rows = option_map (λ kept. broken rules.KEPT kinds.KEPT (to_be_bytes w32 kept.caller.0)) (first_bad (breaks_kept marks nodes customers) 0 rows)
-
-abbrev pub broken_left : List Left → Option Broken
-broken_left rows = option_map (λ left. broken rules.LEFT kinds.LEFT (to_be_bytes w32 left.node.0)) (first_of rows)
-
-abbrev pub broken_tariffs : ℕ → List Tariff → Option Broken
-broken_tariffs first tariffs = option_map (λ month. broken rules.TARIFFS kinds.TARIFF (to_be_bytes w32 month)) (bad_tariff first tariffs)
-
--- the first of these that is there
-abbrev pub first_some : List (Option Broken) → Option Broken
-first_some [] = None
-first_some (first ∷ rest) = or_else first (first_some rest)
-
--- the least rule that is broken
-abbrev pub first_broken : Tables → Option Broken
-first_broken t = first_some (
-    broken_marks t.setup t.marks
-    ∷ broken_nodes t.setup t.marks t.nodes
-    ∷ broken_customers t.setup t.marks t.customers
-    ∷ broken_segments t.setup t.marks t.nodes t.customers t.segments
-    ∷ broken_settled t.setup t.marks t.nodes t.settled
-    ∷ broken_tallies t.tallies
-    ∷ broken_statements t.statements
-    ∷ broken_plan rules.PLANS kinds.AUDIT_PLAN t.audit
-    ∷ broken_plan rules.PLANS kinds.RECHECK_PLAN t.recheck
-    ∷ broken_plan rules.PLANS kinds.REPAIR_PLAN t.repair
-    ∷ broken_containments t.containments
-    ∷ broken_kept t.marks t.nodes t.customers t.kept
-    ∷ broken_plan rules.EXIT_PLAN kinds.EXIT_PLAN t.exit
-    ∷ broken_left t.left
-    ∷ broken_tariffs t.setup.first_month t.tariffs
-    ∷ [])

@@ -2,13 +2,17 @@
 use Rattle.std.specs.Prelude.{◌≡◌, ℕ, ◌^◌, ◌<◌, Bool, true, false, ◌||◌, length, max, if◌then◌else◌}
 use Rattle.sat_base.specs.declared.limits.TheConstants as limits
 use Rattle.sat_base.specs.declared.ids.CustomerId.{CustomerId}
+use Rattle.sat_base.specs.declared.scheme.Scheme.{Scheme}
+use Rattle.repair_core.specs.declared.outcome.RepairOutcome.{RepairOutcome}
+use Rattle.repair_core.specs.declared.outcome.RepairOutcome.TheVariants as repairs
 use Rattle.machine_calls.specs.declared.asking.Asking.{Asking}
+use Rattle.machine_calls.specs.Replies.{is_request}
 use Rattle.machine_calls.specs.declared.call.Call.{Call}
 use Rattle.machine_calls.specs.declared.call.Call.TheVariants as calls
 use Rattle.machine_calls.specs.declared.reply.Reply.{Reply}
 use Rattle.machine_calls.specs.declared.reply.Reply.TheVariants as replies
 use Rattle.machine_calls.specs.declared.refusal.Refusal.TheVariants as refusals
-use Rattle.machine_step.specs.Tables.{Tables, all_changed}
+use Rattle.machine_step.specs.Tables.{Setup, Tables, all_changed}
 use Rattle.machine_step.specs.Outcome.{Outcome, unchanged, refused}
 use Rattle.machine_step.specs.Containment.{swept}
 use Rattle.machine_step.specs.Calls.AddNode.{add_node}
@@ -19,6 +23,15 @@ use Rattle.machine_step.specs.Calls.Get.{get}
 use Rattle.machine_step.specs.Calls.Delete.{delete}
 use Rattle.machine_step.specs.Calls.Settle.{settle}
 use Rattle.machine_step.specs.Calls.SetFree.{set_free}
+use Rattle.machine_step.specs.Calls.PlanAudit.{plan_audit}
+use Rattle.machine_step.specs.Calls.EndAudit.{end_audit}
+use Rattle.machine_step.specs.Calls.PlanRecheck.{plan_recheck}
+use Rattle.machine_step.specs.Calls.EndRecheck.{end_recheck}
+use Rattle.machine_step.specs.Calls.PlanRepair.{plan_repair}
+use Rattle.machine_step.specs.Calls.EndRepair.{end_repair}
+use Rattle.machine_step.specs.Calls.Exit.{exit}
+use Rattle.machine_step.specs.Calls.PlanExit.{plan_exit}
+use Rattle.machine_step.specs.Calls.EndExit.{end_exit}
 
 -- the moment of a call: no earlier than that of an accepted one
 abbrev pub risen : Tables → ℕ → ℕ
@@ -42,6 +55,15 @@ case_of t (calls.Get now customer request segment) = get t (asking t customer re
 case_of t (calls.Delete now customer request segment) = delete t (asking t customer request now) segment
 case_of t (calls.Settle now node bytes) = settle t (risen t now) node bytes
 case_of t (calls.SetFree now node free) = set_free t (risen t now) node free
+case_of t (calls.PlanAudit now words) = plan_audit t (risen t now) words
+case_of t (calls.EndAudit now judged) = end_audit t (risen t now) judged
+case_of t (calls.PlanRecheck now) = plan_recheck t (risen t now)
+case_of t (calls.EndRecheck now plan checked) = end_recheck t (risen t now) plan checked
+case_of t (calls.PlanRepair now words) = plan_repair t (risen t now) words
+case_of t (calls.EndRepair now outcome) = end_repair t (risen t now) outcome
+case_of t (calls.Exit now node) = exit t (risen t now) node
+case_of t (calls.PlanExit now words) = plan_exit t (risen t now) words
+case_of t (calls.EndExit now outcome) = end_exit t (risen t now) outcome
 case_of t calls.Stop = unchanged replies.Stopping
 
 -- and behind each step the containments whose footing is gone are gone
@@ -71,11 +93,23 @@ moment_of (calls.Get now customer request segment) = now
 moment_of (calls.Delete now customer request segment) = now
 moment_of (calls.Settle now node bytes) = now
 moment_of (calls.SetFree now node free) = now
+moment_of (calls.PlanAudit now words) = now
+moment_of (calls.EndAudit now judged) = now
+moment_of (calls.PlanRecheck now) = now
+moment_of (calls.EndRecheck now plan checked) = now
+moment_of (calls.PlanRepair now words) = now
+moment_of (calls.EndRepair now outcome) = now
+moment_of (calls.Exit now node) = now
+moment_of (calls.PlanExit now words) = now
+moment_of (calls.EndExit now outcome) = now
 moment_of calls.Stop = 0
 
 -- a call has as many words as it takes
 abbrev pub HasItsWords : Call → Type 0
 HasItsWords (calls.Begin now customer request len words) = length words ≡ limits.WORDS
+HasItsWords (calls.PlanAudit now words) = length words ≡ 2
+HasItsWords (calls.PlanRepair now words) = length words ≡ limits.WORDS
+HasItsWords (calls.PlanExit now words) = length words ≡ limits.WORDS
 HasItsWords _ = Unit {0}
 
 -- what a call is to be by itself
@@ -83,6 +117,31 @@ pub record IsFormed (call : Call) : Type 0 where
   pub timely : moment_of call < 2 ^ 36
   pub words : HasItsWords call
 
+-- a scheme is the one that a store is set up with
+pub record IsSchemeOf (setup : Setup) (scheme : Scheme) : Type 0 where
+  pub k : scheme.k ≡ setup.k
+  pub m : scheme.m ≡ setup.m
+  pub o : scheme.o ≡ setup.o
+  pub n : scheme.n ≡ setup.n
+  pub share : scheme.share ≡ setup.share
+
+abbrev pub IsMendedBy : Setup → RepairOutcome → Type 0
+IsMendedBy setup (repairs.Mended mended) = IsSchemeOf setup mended.scheme
+IsMendedBy setup (repairs.Unmended unmended) = Unit {0}
+
+-- what was judged or mended was so by the store's scheme
+abbrev pub IsByScheme : Setup → Call → Type 0
+IsByScheme setup (calls.EndAudit now judged) = IsSchemeOf setup judged.scheme
+IsByScheme setup (calls.EndRepair now outcome) = IsMendedBy setup outcome
+IsByScheme setup (calls.EndExit now outcome) = IsMendedBy setup outcome
+IsByScheme setup _ = Unit {0}
+
 -- what a call is to be where it is asked of these tables
-abbrev pub IsWellFormed : Tables → Call → Type 0
-IsWellFormed t call = IsFormed call
+pub record IsWellFormed (t : Tables) (call : Call) : Type 0 where
+  pub formed : IsFormed call
+  pub scheme : IsByScheme t.setup call
+
+-- a request that is formed, which may be asked of any tables
+pub record IsAsked (call : Call) : Type 0 where
+  pub formed : IsFormed call
+  pub asked : is_request call ≡ true

@@ -3,7 +3,7 @@ ghost use Rattle.std.specs.Prelude.{◌≡◌, true, false};
 ghost use Rattle.machine_calls.specs.declared.call.Call.{Call};
 ghost use Rattle.machine_calls.specs.declared.refusal.Refusal.{Refusal};
 ghost use Rattle.machine_calls.specs.declared.reply.Reply.TheVariants as replies;
-ghost use Rattle.machine_calls.specs.Replies.{is_lost, is_told};
+ghost use Rattle.machine_calls.specs.Replies.{is_request, is_lost, is_told};
 ghost use Rattle.machine_step.specs.Tables.{Tables};
 ghost use Rattle.machine_step.specs.Bounds.{Each, IsValid};
 ghost use Rattle.machine_step.specs.Writable.{IsWritable};
@@ -15,10 +15,10 @@ pub fn a_refusal_changes_nothing()
         → (step t call).reply ≡ replies.Refused cause → after t call ≡ t }
 {}
 
-/// Each step is answered by a reply that its caller is told, and never by one of a step that wasn't made: that the
-/// store failed, or that memory was wanting.
+/// Each step of what a caller requests is answered by a reply that the caller is told, and no step by one of a step that
+/// wasn't made: that the store failed, or that memory was wanting.
 pub fn each_step_is_answered()
-    ensures told { (t : Tables) (call : Call) → is_told (step t call).reply ≡ true }
+    ensures told { (t : Tables) (call : Call) → is_request call ≡ true → is_told (step t call).reply ≡ true }
     ensures made { (t : Tables) (call : Call) → is_lost (step t call).reply ≡ false }
 {}
 

@@ -8,13 +8,14 @@
 //! Laws, over all tables and calls:
 //!
 //! - [`a_refusal_changes_nothing`].
-//! - [`each_step_is_answered`]: by a reply that its caller is told, and never by one of a step that wasn't made.
+//! - [`each_step_is_answered`]: what a caller requests by a reply that it is told, and nothing by one of a step that
+//!   wasn't made.
 //! - [`each_step_keeps_the_rules`]: with the order of the rows and the bounds of the records, for a call that is well
 //!   formed.
 //! - [`each_change_can_be_written`]: what a step changes is within what a store's records hold.
 //!
-//! The tables name all sixteen kinds of records. Of those that no call makes yet (tallies, statements, plans,
-//! containments, nodes that left) the rules say that there are none.
+//! The tables name all sixteen kinds of records. Of tallies and statements, which no call makes yet, the rules say that
+//! there are none.
 //!
 //! Not promised here: that code does so. That is `sat_machine`.
 #![tactic(auto)]

@@ -1,16 +1,17 @@
 -- The flags of a draft tell which nodes are eligible.
-use Rattle.std.proofs.Common.{◌≡◌, ℕ, zero, suc, ◌+◌, ◌%◌, ◌<◌, Bool, true, false, List, [], ◌∷◌, ◌++◌, length, get_or, map, Some, refl, sym, ap, cond, ◌∙◌, arith}
+use Rattle.std.proofs.Common.{◌≡◌, ℕ, zero, suc, ◌+◌, ◌%◌, ◌<◌, Bool, true, false, List, [], ◌∷◌, ◌++◌, length, get_or, map, take, Some, refl, sym, ap, cond, ◌∙◌, arith}
 use Rattle.std.specs.Prelude.{◌&&◌, ◌||◌, not, filter, nat_eq, slice_get, slice_index}
 use Rattle.std.specs.Set.{is_member}
 use Rattle.std.proofs.lemmas.Option.{slice_get_read}
-use Rattle.std.proofs.lemmas.List.{length-map, length_push, nil_from_length}
+use Rattle.std.proofs.lemmas.List.{length-map, length_push, map_more, nil_from_length}
 use Rattle.node_registry.specs.declared.node.Node.{Node}
 use Rattle.placement.specs.declared.request.Class.{Class}
 use Rattle.placement.specs.declared.request.Class.TheVariants.{Vetted, Unvetted}
 use Rattle.placement.specs.declared.draft.Draft.{Draft}
 use Rattle.placement.specs.Flags.{rank, count}
 use Rattle.placement.specs.Eligible.{Terms, is_open, is_of, is_eligible, subnet_of, used, eligible_of, next_pick}
-use Rattle.placement.specs.Draft.{flags_of, flags_in, struck, IsDraftAt, AddsPick}
+use Rattle.placement.specs.Chains.{struck}
+use Rattle.placement.specs.Draft.{flags_of, flags_in, IsDraftAt, AddsPick}
 use Rattle.placement.specs.Placed.{IsDrawn, one_more}
 use Rattle.placement.proofs.Picks.{filter-filter, member-push}
 
@@ -71,6 +72,20 @@ next-flag terms class picks flags word n at node flags_is word_is n_is set befor
     let within : at < length terms.nodes = omega (arith, set-within (map test terms.nodes) at is, length-map terms.nodes test) in
     rw (eligible-flags terms class picks, ← among) (selected test terms.nodes at is ∙ slice_get_read terms.nodes (length terms.nodes) at node refl within read)
 
+-- one node more, and what is said of it
+pub mapped-more : {Y : Type 0} (f : Node → Y) (nodes : List Node) (old new : List Y) (at : ℕ) (node : Node) (y : Y) → at < length nodes → node ≡ get_or nodes at node → old ≡ map f (take at nodes) → new ≡ old ++ y ∷ [] → y ≡ f node → new ≡ map f (take (at + 1) nodes)
+mapped-more f nodes old new at node y lt read old_is new_is y_is =
+    new_is ∙ rw (old_is, map_more f nodes at node lt, y_is) (ap (λ one. map f (take at nodes) ++ f one ∷ []) read)
+
+-- whether a node may be picked where no subnet is used
+pub open-flag : (terms : Terms) (class : Class) (node : Node) (flag : Bool) → flag ≡ (is_of class terms.vet node && is_open terms node) → flag ≡ test_of terms class [] node
+open-flag terms class node flag is = is ∙ go (is_of class terms.vet node) (is_open terms node)
+  where
+    go : (a b : Bool) → (a && b) ≡ (a && (b && true))
+    go true true = refl
+    go true false = refl
+    go false b = refl
+
 -- ---- drafts
 
 pub length-flags : (terms : Terms) (class : Class) (subnets : List ℕ) (draft : Draft) → IsDraftAt terms subnets draft → length (flags_in class draft) ≡ length terms.nodes
@@ -82,11 +97,11 @@ flags-draft terms Vetted subnets draft is = is.vetted
 flags-draft terms Unvetted subnets draft is = is.unvetted
 
 -- one subnet more is used
-pub struck-draft : (terms : Terms) (subnets : List ℕ) (subnet : ℕ) (old new : Draft) → IsDraftAt terms subnets old → new.seats.items ≡ old.seats.items → new.vetted ≡ struck (map subnet_of terms.nodes) subnet old.vetted → new.unvetted ≡ struck (map subnet_of terms.nodes) subnet old.unvetted → IsDraftAt terms (subnets ++ subnet ∷ []) new
-struck-draft terms subnets subnet old new is seats vetted unvetted = record {
-  seats = rw seats is.seats;
-  vetted = vetted ∙ rw is.vetted (struck-flags terms Vetted subnets subnet terms.nodes);
-  unvetted = unvetted ∙ rw is.unvetted (struck-flags terms Unvetted subnets subnet terms.nodes);
+pub struck-draft : (terms : Terms) (subnets : List ℕ) (subnet : ℕ) (old new : Draft) → IsDraftAt terms subnets old → new.chains ≡ old.chains → new.vetted ≡ struck old.chains.subnets subnet old.vetted → new.unvetted ≡ struck old.chains.subnets subnet old.unvetted → IsDraftAt terms (subnets ++ subnet ∷ []) new
+struck-draft terms subnets subnet old new is chains vetted unvetted = record {
+  chains = rw chains is.chains;
+  vetted = vetted ∙ rw (is.chains, is.vetted) (struck-flags terms Vetted subnets subnet terms.nodes);
+  unvetted = unvetted ∙ rw (is.chains, is.unvetted) (struck-flags terms Unvetted subnets subnet terms.nodes);
 }
 
 -- ---- picks

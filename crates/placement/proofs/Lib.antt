@@ -1,4 +1,4 @@
 pub mod Ranks
-pub mod SeatLemmas
+pub mod ChainLemmas
 pub mod Picks
 pub mod DraftLemmas

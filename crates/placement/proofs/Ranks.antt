@@ -1,5 +1,5 @@
--- How many of the first flags are set, after one flag more, or one set down.
-use Rattle.std.proofs.Common.{◌≡◌, ℕ, zero, suc, ◌+◌, ◌-◌, ◌*◌, ◌/◌, ◌<◌, ◌≤◌, Bool, true, false, List, [], ◌∷◌, ◌++◌, length, get_or, set, refl, sym, ap, inl, inr, arith, length-append, length-set, get_or-set_same, get_or-set_other, ◌∙◌}
+-- How many of the first flags are set, in each block and where one is set down.
+use Rattle.std.proofs.Common.{◌≡◌, ℕ, zero, suc, ◌+◌, ◌-◌, ◌*◌, ◌/◌, ◌<◌, ◌≤◌, Bool, true, false, List, [], ◌∷◌, length, get_or, set, refl, sym, ap, inl, inr, arith, length-set, get_or-set_same, get_or-set_other, ◌∙◌, take, drop, zero-add, min}
 use Rattle.std.specs.Prelude.{◌==◌, if◌then◌else◌, nat_lt, slice_index}
 use Rattle.std.proofs.lemmas.Bool.{cases_eq, cases_lt, eq-eqb, ne_eqb}
 use Rattle.std.proofs.lemmas.List.{get_or_read}
@@ -35,28 +35,52 @@ rank_more_yes i flags is = rank_more i flags ∙ rw is refl
 pub rank_more_no : (i : ℕ) (flags : List Bool) → get_or flags i false ≡ false → rank (i + 1) flags ≡ rank i flags
 rank_more_no i flags is = rank_more i flags ∙ rw is (omega arith)
 
+rank_none : (j : ℕ) → rank j [] ≡ 0
+rank_none zero = refl
+rank_none (suc j) = refl
+
+rank_first : (n : ℕ) (flags : List Bool) → rank n flags ≡ count (take n flags)
+rank_first zero flags = refl
+rank_first (suc n) [] = refl
+rank_first (suc n) (true ∷ flags) = ap suc (rank_first n flags)
+rank_first (suc n) (false ∷ flags) = rank_first n flags
+
+-- a part of the flags
+pub rank_part : (i n : ℕ) (flags : List Bool) → rank (i + n) flags ≡ rank i flags + count (take n (drop i flags))
+rank_part zero n flags = rw zero-add (rank_first n flags ∙ sym (zero-add _))
+rank_part (suc i) n [] = rank_none (suc i + n) ∙ rw (← rank_first n [], rank_none n) refl
+rank_part (suc i) n (true ∷ flags) = let next : suc i + n ≡ suc (i + n) = omega arith in let rest = rank_part i n flags in rw next (omega arith)
+rank_part (suc i) n (false ∷ flags) = let next : suc i + n ≡ suc (i + n) = omega arith in rw next (rank_part i n flags)
+
+-- the flags of a block, which may be the last one
+pub rank_block : (block end n : ℕ) (flags : List Bool) → block * 256 ≤ length flags → end ≡ min (length flags) (block * 256 + 256) → n ≡ count (take (end - block * 256) (drop (block * 256) flags)) → rank (256 * block) flags + n ≡ rank (256 * (block + 1)) flags
+rank_block block end n flags le end_is n_is =
+    let to : ℕ → ℕ = λ j. rank j flags in
+    let start : to (256 * block) ≡ to (block * 256) = ap to (omega arith) in
+    let part = rank_part (block * 256) (end - block * 256) flags in
+    let parts : to (block * 256 + (end - block * 256)) ≡ to end = ap to (omega arith) in
+    let whole : to end ≡ to (256 * (block + 1)) = elim (cases_lt (block * 256 + 256) (length flags)) [
+      | inl within ↦ ap to (omega arith)
+      | inr past ↦ ap to (omega arith) ∙ sym (rank_past (256 * (block + 1)) flags (omega arith))
+    ] in
+    omega arith
+
 pub count-le : (flags : List Bool) → count flags ≤ length flags
 count-le [] = omega arith
 count-le (true ∷ flags) = let rest = count-le flags in omega arith
 count-le (false ∷ flags) = let rest = count-le flags in omega arith
 
+pub rank-le-length : (j : ℕ) (flags : List Bool) → rank j flags ≤ length flags
+rank-le-length j flags =
+    let all = count-le flags in
+    elim (cases_lt j (length flags)) [
+      | inl within ↦ let le = rank-le j (length flags) flags (omega arith) in omega arith
+      | inr past ↦ rw (rank_past j flags past) all
+    ]
+
 -- 1 where a place is among the first j
 abbrev pub one_below : ℕ → ℕ → ℕ
 one_below at j = if nat_lt at j then 1 else 0
-
-pub rank_pushed : (j : ℕ) (flags : List Bool) → rank j (flags ++ true ∷ []) ≡ rank j flags + one_below (length flags) j
-rank_pushed zero flags = grind (arith, nat_tests)
-rank_pushed (suc zero) [] = grind (arith, nat_tests)
-rank_pushed (suc (suc j)) [] = grind (arith, nat_tests)
-rank_pushed (suc j) (true ∷ flags) = let rest = rank_pushed j flags in grind (arith, nat_tests, rest)
-rank_pushed (suc j) (false ∷ flags) = let rest = rank_pushed j flags in grind (arith, nat_tests, rest)
-
-pub rank_pushed_none : (j : ℕ) (flags : List Bool) → rank j (flags ++ false ∷ []) ≡ rank j flags
-rank_pushed_none zero flags = refl
-rank_pushed_none (suc zero) [] = refl
-rank_pushed_none (suc (suc j)) [] = refl
-rank_pushed_none (suc j) (true ∷ flags) = ap suc (rank_pushed_none j flags)
-rank_pushed_none (suc j) (false ∷ flags) = rank_pushed_none j flags
 
 -- a flag that was set is set down
 pub rank_cleared : (j : ℕ) (flags : List Bool) (at : ℕ) → get_or flags at false ≡ true → rank j (set flags at false) + one_below at j ≡ rank j flags
@@ -77,45 +101,9 @@ index_set xs i v b lt = elim (cases_eq b i) [
   | inr other ↦ rw (get_or-set_other xs i b v 0 other, ne_eqb b i other) refl
 ]
 
-pub counted-none : IsCounted [] [] 0
-counted-none = record { all = refl; covered = omega arith; blocks = λ b. rw (rank_past (256 * b) [] (omega arith), rank_past (256 * (b + 1)) [] (omega arith)) refl }
-
--- no block counts more flags than there are
-pub block-le : (flags : List Bool) (counts : List ℕ) (total b : ℕ) → IsCounted flags counts total → slice_index counts b ≤ length flags
-block-le flags counts total b counted =
-    let block = counted.blocks b in
-    let all : rank (256 * (b + 1)) flags ≤ count flags = elim (cases_lt (256 * (b + 1)) (length flags)) [ inl within ↦ rank-le (256 * (b + 1)) (length flags) flags (omega arith) | inr past ↦ let same = rank_past (256 * (b + 1)) flags past in omega arith ] in
-    omega (arith, count-le flags)
-
 -- a place at which fewer than all are set before it is one of the flags
 pub within-count : (j : ℕ) (flags : List Bool) → rank j flags < count flags → j < length flags
 within-count j flags lt = elim (cases_lt j (length flags)) [ inl within ↦ within | inr past ↦ let all = rank_past j flags past in absurd (omega arith) ]
-
-pub counted-same : (flags : List Bool) (counts more : List ℕ) (total : ℕ) → IsCounted flags counts total → length flags ≤ 256 * length more → ((b : ℕ) → slice_index more b ≡ slice_index counts b) → IsCounted flags more total
-counted-same flags counts more total counted covered same = record {
-  all = counted.all;
-  covered = covered;
-  blocks = λ b. rw (same b) (counted.blocks b);
-}
-
-pub counted-pushed : (flags : List Bool) (counts : List ℕ) (total at : ℕ) → IsCounted flags counts total → at ≡ length flags → at < 256 * length counts → IsCounted (flags ++ true ∷ []) (set counts (at / 256) (slice_index counts (at / 256) + 1)) (total + 1)
-counted-pushed flags counts total at counted is lt =
-    let long : length (flags ++ true ∷ []) ≡ length flags + 1 = length-append flags (true ∷ []) in
-    let within : at / 256 < length counts = omega arith in
-    record {
-      all = let all = counted.all in grind (arith, nat_tests, long, rank_pushed (length (flags ++ true ∷ [])) flags, rank_past (length flags + 1) flags);
-      covered = simp (length-set, length-append) (omega arith);
-      blocks = λ b. grind (arith, nat_tests, is, counted.blocks b, rank_pushed (256 * b) flags, rank_pushed (256 * (b + 1)) flags, one_in_block at b, index_set counts (at / 256) (slice_index counts (at / 256) + 1) b within);
-    }
-
-pub counted-pushed_none : (flags : List Bool) (counts : List ℕ) (total : ℕ) → IsCounted flags counts total → length flags < 256 * length counts → IsCounted (flags ++ false ∷ []) counts total
-counted-pushed_none flags counts total counted lt =
-    let long : length (flags ++ false ∷ []) ≡ length flags + 1 = length-append flags (false ∷ []) in
-    record {
-      all = counted.all ∙ rw (rank_pushed_none (length (flags ++ false ∷ [])) flags, long) (sym (rank_past (length flags + 1) flags (omega arith)));
-      covered = rw long (omega arith);
-      blocks = λ b. rw (rank_pushed_none (256 * b) flags, rank_pushed_none (256 * (b + 1)) flags) (counted.blocks b);
-    }
 
 -- what holds where a flag that was set is set down, and n was the count of its block
 pub record AreCleared (flags : List Bool) (counts : List ℕ) (total at n : ℕ) : Type 0 where

@@ -1,5 +1,5 @@
 pub mod Flags
 pub mod Eligible
-pub mod Seats
+pub mod Chains
 pub mod Draft
 pub mod Placed

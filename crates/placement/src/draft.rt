@@ -1,14 +1,13 @@
 // A placement in the making.
-ghost use Rattle.std.specs.Prelude.{◌≡◌, ◌+◌, ◌<◌, ◌≤◌, ◌++◌, ◌∷◌, [], All, IfOk, OnOk, false, fold, length, map, slice_set};
+ghost use Rattle.std.specs.Prelude.{◌≡◌, ◌+◌, ◌<◌, ◌≤◌, [], IfOk, OnOk, length};
 ghost use Rattle.placement.specs.Flags.{count};
-ghost use Rattle.placement.specs.Eligible.{subnet_of};
 ghost use Rattle.placement.specs.Placed.{IsPhase};
-ghost use Rattle.placement.specs.Seats.{AreSeats};
-ghost use Rattle.placement.specs.Draft.{terms_of, flags_of, flags_in, struck, IsDraft, IsDraftAt, AddsPick};
+ghost use Rattle.placement.specs.Chains.{struck};
+ghost use Rattle.placement.specs.Draft.{terms_of, flags_in, IsDraft, IsDraftAt, AddsPick};
 
+use crate::chains::Chains;
 use crate::flags::Flags;
 use crate::request::{Class, Request};
-use crate::seats::{Seat, seats, seats_in};
 use node_registry::{Node, subnet};
 use sat_base::NoMemory;
 use std::alloc::Global;
@@ -17,44 +16,58 @@ use std::alloc::Global;
 #[derive(Drop)]
 pub struct Draft {
     pub picks: Vec<Node>,
-    seats: Vec<Seat>,
+    chains: Chains,
     vetted: Flags,
     unvetted: Flags,
 }
 
 impl Draft {
-    // No picks.
+    // No picks, and the taken subnets are used.
     pub fn new(alloc: Global, request: &Request<'_>) -> Result<Self, NoMemory>
         ensures draft { IfOk result (λ draft. IsDraft (terms_of request.now) draft) }
         ensures picks { IfOk result (λ draft. draft.picks.items ≡ []) }
     {
-        let mut draft = Draft {
-            picks: Vec::new(alloc),
-            seats: seats(alloc, request.nodes)?,
-            vetted: open_flags(alloc, request, Class::Vetted)?,
-            unvetted: open_flags(alloc, request, Class::Unvetted)?,
-        };
+        let mut draft = Draft::open(alloc, request)?;
         for subnet in request.taken {
-            draft.strike(request, *subnet);
+            draft.strike(*subnet);
         }
         Ok(draft)
     }
 
-    // Lets no node of a subnet be picked any more.
-    fn strike(&mut self, request: &Request<'_>, subnet: u32)
-        requires seats { AreSeats (map subnet_of request.now.nodes.now) self.old.seats.items }
-        requires vetted { length self.old.vetted ≡ length request.now.nodes.now }
-        requires unvetted { length self.old.unvetted ≡ length request.now.nodes.now }
-        ensures seats { self.new.seats.items ≡ self.old.seats.items }
-        ensures picks { self.new.picks.items ≡ self.old.picks.items }
-        ensures vetted { self.new.vetted
-            ≡ struck (map subnet_of request.now.nodes.now) subnet self.old.vetted }
-        ensures unvetted { self.new.unvetted
-            ≡ struck (map subnet_of request.now.nodes.now) subnet self.old.unvetted }
+    // No picks, and no subnet is used.
+    fn open(alloc: Global, request: &Request<'_>) -> Result<Self, NoMemory>
+        ensures draft { IfOk result (λ draft. IsDraftAt (terms_of request.now) [] draft) }
+        ensures picks { IfOk result (λ draft. draft.picks.items ≡ []) }
     {
-        let seats = seats_in(self.seats.as_slice(), subnet);
-        clear_all(&mut self.vetted, seats);
-        clear_all(&mut self.unvetted, seats);
+        let count = request.table.len();
+        let mut chains = Chains::new(alloc, count)?;
+        let mut vetted = Vec::with_capacity(alloc, count)?;
+        let mut unvetted = Vec::with_capacity(alloc, count)?;
+        for node in request.table.nodes() {
+            let is_open = request.is_open(node);
+            chains.push(subnet(node.addr));
+            vetted.push_reserved(request.is_of(Class::Vetted, node) && is_open);
+            unvetted.push_reserved(request.is_of(Class::Unvetted, node) && is_open);
+        }
+        Ok(Draft {
+            picks: Vec::new(alloc),
+            chains,
+            vetted: Flags::of(alloc, vetted)?,
+            unvetted: Flags::of(alloc, unvetted)?,
+        })
+    }
+
+    // Lets no node of a subnet be picked any more.
+    fn strike(&mut self, subnet: u32)
+        requires vetted { length self.old.vetted ≡ length self.old.chains.subnets }
+        requires unvetted { length self.old.unvetted ≡ length self.old.chains.subnets }
+        ensures chains { self.new.chains ≡ self.old.chains }
+        ensures picks { self.new.picks.items ≡ self.old.picks.items }
+        ensures vetted { self.new.vetted ≡ struck self.old.chains.subnets subnet self.old.vetted }
+        ensures unvetted { self.new.unvetted ≡ struck self.old.chains.subnets subnet self.old.unvetted }
+    {
+        self.chains
+            .strike(subnet, &mut self.vetted, &mut self.unvetted);
     }
 
     // Which nodes of a class may be picked.
@@ -80,11 +93,11 @@ impl Draft {
         let word = words[self.picks.len()];
         let flags = self.flags(class);
         let place = flags.select((word % flags.count() as u64) as usize);
-        let nodes = request.nodes;
+        let nodes = request.table.nodes();
         let node = nodes[place];
         let subnet = subnet(node.addr);
         self.picks.push(node)?;
-        self.strike(request, subnet);
+        self.strike(subnet);
         Ok(())
     }
 
@@ -108,26 +121,5 @@ impl Draft {
             self.pick(request, class)?;
         }
         Ok(())
-    }
-}
-
-// Which nodes of a class may be picked where no subnet is used.
-fn open_flags(alloc: Global, request: &Request<'_>, class: Class) -> Result<Flags, NoMemory>
-    ensures { IfOk result (λ flags. flags ≡ flags_of (terms_of request.now) class []) }
-{
-    let mut flags = Flags::new(alloc);
-    for node in request.nodes {
-        flags.push(request.is_of(class, node) && request.is_open(node))?;
-    }
-    Ok(flags)
-}
-
-// Sets down the flags at these seats.
-fn clear_all(flags: &mut Flags, seats: &[Seat])
-    requires { All (λ seat. seat.place < length flags.old) seats.now }
-    ensures { flags.new ≡ fold (λ flags seat. slice_set flags seat.place false) flags.old seats.now }
-{
-    for seat in seats {
-        flags.clear(seat.place);
     }
 }

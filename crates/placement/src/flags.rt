@@ -1,6 +1,6 @@
 // Flags in a row that know how many of them are set, and where the k-th of these stands: `select` on a bit
 // vector (Jacobson, "Space-efficient Static Trees and Graphs", 1989), with a count for each block of flags.
-ghost use Rattle.std.specs.Prelude.{◌≡◌, ℕ, ◌+◌, ◌*◌, ◌<◌, ◌≤◌, ◌++◌, ◌∷◌, [], Bool, true, false, List, length, slice_set, slice_index, slice_index_or, OnOk};
+ghost use Rattle.std.specs.Prelude.{◌≡◌, ℕ, ◌+◌, ◌*◌, ◌<◌, ◌≤◌, Bool, true, false, List, length, slice_set, slice_index, slice_index_or, IfOk};
 ghost use Rattle.placement.specs.Flags.{rank, count, IsCounted};
 
 use sat_base::NoMemory;
@@ -32,29 +32,25 @@ impl Model for Flags {
 }
 
 impl Flags {
-    // No flags.
-    pub fn new(alloc: Global) -> Self
-        ensures { result ≡ [] }
+    // These flags.
+    pub fn of(alloc: Global, flags: Vec<bool>) -> Result<Self, NoMemory>
+        ensures { IfOk result (λ made. made ≡ flags.items) }
     {
-        Flags {
-            flags: Vec::new(alloc),
-            counts: Vec::new(alloc),
-            total: 0,
+        let blocks = flags.len() / BLOCK + 1;
+        let mut counts = Vec::with_capacity(alloc, blocks)?;
+        let mut total = 0;
+        for block in 0..blocks {
+            let start = block * BLOCK;
+            let end = flags.len().min(start + BLOCK);
+            let count = count_set(&flags[start..end]);
+            counts.push_reserved(count);
+            total += count;
         }
-    }
-
-    // Adds one at the end.
-    pub fn push(&mut self, flag: bool) -> Result<(), NoMemory>
-        ensures { OnOk result (self.new ≡ self.old ++ flag ∷ []) }
-    {
-        let at = self.flags.len();
-        add_block(&mut self.counts, at)?;
-        self.flags.push(flag)?;
-        if flag {
-            self.counts[at / BLOCK] += 1;
-            self.total += 1;
-        }
-        Ok(())
+        Ok(Flags {
+            flags,
+            counts,
+            total,
+        })
     }
 
     // How many are set.
@@ -93,17 +89,17 @@ impl Flags {
     }
 }
 
-// Sees to a count for the block of a flag that comes next.
-fn add_block(counts: &mut Vec<usize>, at: usize) -> Result<(), NoMemory>
-    requires { at ≤ 256 * length counts.old.items }
-    ensures room { OnOk result (at < 256 * length counts.new.items) }
-    ensures covered { at ≤ 256 * length counts.new.items }
-    ensures same { (b : ℕ) → slice_index counts.new.items b ≡ slice_index counts.old.items b }
+// How many flags are set.
+fn count_set(flags: &[bool]) -> usize
+    ensures { result ≡ count flags.now }
 {
-    if at / BLOCK == counts.len() {
-        counts.push(0)?;
+    let mut count = 0;
+    for flag in flags {
+        if *flag {
+            count += 1;
+        }
     }
-    Ok(())
+    count
 }
 
 // The place of the k-th flag from `start` on that is set.

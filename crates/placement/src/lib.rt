@@ -6,19 +6,19 @@
 //! one subnet (`spread`). `Few` comes only where the eligible nodes are in too few subnets, with their number (`few`,
 //! `wanting`), and nodes come only where they are in enough (`enough`).
 //!
-//! It passes over all nodes and sorts them by subnet once a call. A pick then looks at the nodes of its subnet, at
-//! one block of 256 nodes, and at a count for each block.
+//! It passes over all nodes once a call. A pick then looks at the nodes of its subnet, with those that share a bucket
+//! of subnets, at one block of 256 nodes, and at a count for each block.
 //!
 //! Not promised: that the picks are even. They are as random as the words, less what `mod c` takes.
 #![tactic(auto)]
 
+mod chains;
 mod draft;
 mod flags;
 mod placing;
 #[cfg(test)]
 mod plain;
 mod request;
-mod seats;
 #[cfg(test)]
 mod tests;
 

@@ -64,8 +64,8 @@ fn ids(alloc: Global, nodes: &[Node]) -> Result<Vec<NodeId>, NoMemory>
 /// wanted, of the others. A phase ends early where its class has no eligible node left. Pick j takes, of the
 /// c eligible nodes of its class by id, the one at the place `words[j] mod c`.
 ///
-/// It passes over the nodes and sorts them by subnet once. Then a pick looks at the nodes of its subnet, at
-/// one block of 256 nodes, and at a count for each block.
+/// It passes over the nodes once. Then a pick looks at the nodes of its subnet, with those that share a bucket
+/// of subnets, at one block of 256 nodes, and at a count for each block.
 ///
 /// # Errors
 /// `Few` where the eligible nodes are in fewer subnets than `need`; `chosen` is the number of these.
@@ -92,7 +92,7 @@ pub fn place(
     ensures wanting { (chosen : ℕ) → result ≡ Err (PlaceErr.Few chosen) → chosen < need }
 {
     let request = Request {
-        nodes: table.nodes(),
+        table,
         vet,
         taken,
         piece_len,

@@ -2,13 +2,12 @@ ghost use Rattle.std.specs.Prelude.{◌≡◌};
 ghost use Rattle.placement.specs.Eligible.{is_open, is_of};
 ghost use Rattle.placement.specs.Draft.{terms_of};
 
-use node_registry::{Node, Status};
+use node_registry::{Node, NodeTable, Status};
 
 // What a placement is asked for.
 #[derive(Clone, Copy)]
 pub struct Request<'a> {
-    // By id.
-    pub nodes: &'a [Node],
+    pub table: &'a NodeTable,
     // From how many passes on a node is vetted.
     pub vet: u16,
     // The subnets in which no node may be picked.

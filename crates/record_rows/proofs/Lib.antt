@@ -1,5 +1,4 @@
 pub mod Joins
 pub mod KindLemmas
-pub mod PlaceLemmas
 pub mod SchemeLemmas
 pub mod UpgradeLemmas

@@ -6,7 +6,6 @@ pub mod Bodies
 pub mod Spelling
 pub mod Fits
 pub mod Ranks
-pub mod Rising
 pub mod Reading
 pub mod Laws
 pub mod Version1

@@ -7,12 +7,12 @@ ghost use Rattle.segment_core.specs.Places.{IsByIndex};
 ghost use Rattle.record_rows.specs.Numbers.{listed};
 ghost use Rattle.record_rows.specs.Plans.{at_bytes};
 ghost use Rattle.record_rows.specs.Fits.{AtFits, PlacesFit};
-ghost use Rattle.record_rows.specs.Rising.{is_rising};
 ghost use Rattle.record_rows.specs.Laws.Records.{at_apart, places_apart, no_places};
 
 use crate::coded::{Coded, Spelled, Unread};
 use crate::made::{Made, take_made};
-use sat_base::{At, Items, NoMemory, NodeId, limits};
+use sat_base::{At, Items, NoMemory, NodeId};
+use segment_core::are_places;
 use std::alloc::Global;
 use std::marker::Model;
 
@@ -67,30 +67,6 @@ impl Places {
         let Places { places } = self;
         places
     }
-}
-
-// Whether the indexes rise.
-fn is_rising(places: &[At]) -> bool
-    ensures { result ≡ is_rising 0 places.now }
-{
-    let mut least = 0;
-    for place in places {
-        if place.index < least || place.index >= limits::PLACES {
-            return false;
-        }
-        least = place.index + 1;
-    }
-    true
-}
-
-// Whether the indexes rise and are below 128.
-fn are_places(places: &[At]) -> bool
-    ensures sound { result ≡ true
-        → IsByIndex places.now × All (λ at. at.index < limits.PLACES) places.now }
-    ensures complete { IsByIndex places.now → All (λ at. at.index < limits.PLACES) places.now
-        → result ≡ true }
-{
-    is_rising(places)
 }
 
 impl Made for Places {

@@ -1,11 +1,12 @@
 -- The rows of all blocks, by one of them.
-use Rattle.std.proofs.Common.{◌≡◌, ℕ, suc, zero, ◌+◌, ◌-◌, ◌<◌, ◌≤◌, List, [], ◌∷◌, ◌++◌, length, take, drop, get_or, None, refl, sym, ap, ◌∙◌, subst, arith}
-use Rattle.std.specs.Prelude.{slice_get, slice_set, insert}
-use Rattle.std.proofs.lemmas.List.{drop_more, take-append-drop, append_assoc, set_split, take_more_set, drop-set-lt}
+use Rattle.std.proofs.Common.{◌≡◌, ℕ, suc, zero, ◌+◌, ◌-◌, ◌<◌, ◌≤◌, List, [], ◌∷◌, ◌++◌, length, take, drop, get_or, Some, None, length-append, refl, sym, ap, ◌∙◌, subst, arith}
+use Rattle.std.specs.Prelude.{slice_get, slice_set, insert, remove}
+use Rattle.std.proofs.lemmas.List.{drop_more, take-append-drop, append_assoc, set_split, take_more_set, take-set-le, drop-set-lt, nil_from_length}
+use Rattle.std.proofs.lemmas.Option.{slice_get_read}
 use Rattle.std.specs.Option.{option_or}
-use Rattle.rows.specs.Rows.{RowList, row_at, first_above, added, AllAbove, IsRising}
+use Rattle.rows.specs.Rows.{RowList, row_at, first_above, added, without, AllAbove, IsRising}
 use Rattle.rows.specs.Blocks.{all_rows, IsBlock, AreBlocks, BeginsBy, BeginsAbove, IsHolder}
-use Rattle.rows.proofs.OrderLemmas.{above_behind, rising_behind, below_front, above_begin, row_within, next_within, added_within, rising_front}
+use Rattle.rows.proofs.OrderLemmas.{above_behind, rising_behind, below_front, above_begin, row_within, next_within, added_within, without_within, rising_front}
 
 module _ {R : Type 0} where
   pub all_rows-append : (xs ys : List (RowList R)) → all_rows (xs ++ ys) ≡ all_rows xs ++ all_rows ys
@@ -91,6 +92,27 @@ module _ {R : Type 0} where
     pub set_blocks : (new : RowList R) → AreBlocks blocks → IsBlock new → AreBlocks (slice_set blocks at new)
     set_blocks new are is = rw (set_is new) (blocks_more (take at blocks) (new ∷ drop (at + 1) blocks) (blocks_front at blocks are) (is, blocks_behind (at + 1) blocks are))
 
+    cut_is : (new : RowList R) → remove (slice_set blocks at new) at ≡ take at blocks ++ drop (at + 1) blocks
+    cut_is new =
+        let next : suc at ≡ at + 1 = omega arith in
+        rw (take-set-le at blocks at new (omega arith), next, drop-set-lt (at + 1) blocks at new (omega arith)) refl
+
+    pub cut_blocks : (new : RowList R) → AreBlocks blocks → AreBlocks (remove (slice_set blocks at new) at)
+    cut_blocks new are = rw (cut_is new) (blocks_more (take at blocks) (drop (at + 1) blocks) (blocks_front at blocks are) (blocks_behind (at + 1) blocks are))
+
+    -- how many rows, by those of one block
+    length_at : (b : RowList R) → b ≡ get_or blocks at b → (mid : List R)
+        → length (all_rows (take at blocks) ++ (mid ++ all_rows (drop (at + 1) blocks))) + length b.rows ≡ length (all_rows blocks) + length mid
+    length_at b is mid = rw (rows_at blocks at b lt is) (simp length-append (omega arith))
+
+    pub length_set : (b : RowList R) → b ≡ get_or blocks at b → (new : RowList R)
+        → length (all_rows (slice_set blocks at new)) + length b.rows ≡ length (all_rows blocks) + length new.rows
+    length_set b is new = rw (set_rows new) (length_at b is new.rows)
+
+    pub length_cut : (b : RowList R) → b ≡ get_or blocks at b → (new : RowList R)
+        → length (all_rows (remove (slice_set blocks at new) at)) + length b.rows ≡ length (all_rows blocks)
+    length_cut b is new = rw (cut_is new, all_rows-append (take at blocks) (drop (at + 1) blocks)) (omega (arith, length_at b is []))
+
     split_is : (low up : RowList R) → insert (slice_set blocks at low) (at + 1) up ≡ (take at blocks ++ (low ∷ [])) ++ (up ∷ drop (at + 1) blocks)
     split_is low up = rw (take_more_set blocks at low lt, drop-set-lt (at + 1) blocks at low (omega arith)) refl
 
@@ -123,6 +145,21 @@ module _ {R : Type 0} where
       pub held_absent : row_at rank (all_rows blocks) (rank row) ≡ None → row_at rank b.rows (rank row) ≡ None
       held_absent none = sym (row_held rank (rank row) blocks at b lt is holds) ∙ none
 
+    -- a row less in the block that it belongs to, which goes where it has no other
+    module _ (rank : R → ℕ) (k : ℕ) (b : RowList R) (is : b ≡ get_or blocks at b) (holds : IsHolder rank k blocks at) where
+      fewer_rows : (mid : List R) → mid ≡ without rank b.rows k
+          → all_rows (take at blocks) ++ (mid ++ all_rows (drop (at + 1) blocks)) ≡ without rank (all_rows blocks) k
+      fewer_rows mid less =
+          rw (less, rows_at blocks at b lt is) (sym (without_within rank k (all_rows (take at blocks)) b.rows (all_rows (drop (at + 1) blocks)) holds.below holds.above))
+
+      pub set_without : (new : RowList R) → new.rows ≡ without rank b.rows k → all_rows (slice_set blocks at new) ≡ without rank (all_rows blocks) k
+      set_without new less = set_rows new ∙ fewer_rows new.rows less
+
+      pub cut_without : (new : RowList R) → new.rows ≡ without rank b.rows k → length new.rows ≡ 0 → all_rows (remove (slice_set blocks at new) at) ≡ without rank (all_rows blocks) k
+      cut_without new less none =
+          ap (λ (l : List (RowList R)). all_rows l) (cut_is new) ∙ all_rows-append (take at blocks) (drop (at + 1) blocks)
+          ∙ ap (λ (l : List R). all_rows (take at blocks) ++ (l ++ all_rows (drop (at + 1) blocks))) (sym (nil_from_length new.rows none)) ∙ fewer_rows new.rows less
+
     pub held_rising : (rank : R → ℕ) (b : RowList R) → b ≡ get_or blocks at b → IsRising rank (all_rows blocks) → IsRising rank b.rows
     held_rising rank b is rising =
         rising_front rank b.rows (all_rows (drop (at + 1) blocks)) (rising_behind rank (all_rows (take at blocks)) (b.rows ++ all_rows (drop (at + 1) blocks))
@@ -132,3 +169,28 @@ module _ {R : Type 0} where
   same_at [] at b c lt is_b is_c = absurd (omega arith)
   same_at (x ∷ xs) zero b c lt is_b is_c = is_b ∙ sym is_c
   same_at (x ∷ xs) (suc at) b c lt is_b is_c = same_at xs at b c (omega arith) is_b is_c
+
+  -- ---- the row at a place
+
+  get_front : (xs ys : List R) (k : ℕ) → k < length xs → slice_get (xs ++ ys) k ≡ slice_get xs k
+  get_front [] ys k lt = absurd (omega arith)
+  get_front (x ∷ xs) ys zero lt = refl
+  get_front (x ∷ xs) ys (suc k) lt = get_front xs ys k (omega arith)
+
+  get_behind : (xs ys : List R) (k n : ℕ) → k ≡ length xs + n → slice_get (xs ++ ys) k ≡ slice_get ys n
+  get_behind [] ys k n is = let same : k ≡ n = omega (arith, is) in ap (λ (i : ℕ). slice_get ys i) same
+  get_behind (x ∷ xs) ys zero n is = absurd (omega (arith, is))
+  get_behind (x ∷ xs) ys (suc k) n is = get_behind xs ys k n (omega (arith, is))
+
+  module _ (blocks : List (RowList R)) (at : ℕ) (b : RowList R) (lt : at < length blocks) (is : b ≡ get_or blocks at b) where
+    -- in a block
+    pub nth_here : (k : ℕ) (row : R) → k < length b.rows → row ≡ get_or b.rows k row → slice_get (all_rows (drop at blocks)) k ≡ Some row
+    nth_here k row within row_is =
+        ap (λ (l : List (RowList R)). slice_get (all_rows l) k) (cut_at blocks at b lt is)
+        ∙ get_front b.rows (all_rows (drop (at + 1) blocks)) k within ∙ slice_get_read b.rows (length b.rows) k row refl within row_is
+
+    -- and behind it
+    pub nth_behind : (k : ℕ) → length b.rows ≤ k → slice_get (all_rows (drop at blocks)) k ≡ slice_get (all_rows (drop (at + 1) blocks)) (k - length b.rows)
+    nth_behind k past =
+        ap (λ (l : List (RowList R)). slice_get (all_rows l) k) (cut_at blocks at b lt is)
+        ∙ get_behind b.rows (all_rows (drop (at + 1) blocks)) k (k - length b.rows) (omega arith)

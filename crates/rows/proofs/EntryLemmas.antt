@@ -1,16 +1,18 @@
 -- What a look-up, a row more and a row less do to the entries of a table, and to the rows that they stand for.
 use Rattle.std.proofs.Common.{◌≡◌, ℕ, ◌+◌, ◌<◌, ◌≤◌, true, false, List, [], ◌∷◌, length, Option, Some, None, is_some, IsSome, Bor, option_copied, rules, refl, sym, ◌∙◌, ap, subst, arith}
 use Rattle.std.specs.Ordering.{nat_cmp}
-use Rattle.std.specs.Prelude.{◌==◌}
+use Rattle.std.specs.Prelude.{◌==◌, slice_get}
 use Rattle.std.specs.List.{list_any}
 use Rattle.std.specs.BTreeMap.{insert_entry, is_at}
-use Rattle.std.specs.Map.{keys_of, lookup, remove_entry}
+use Rattle.std.specs.BTreeMap.Range.{entries_between}
+use Rattle.std.specs.declared.ops.Bound.TheVariants.{Excluded, Unbounded}
+use Rattle.std.specs.Map.{keys_of, values_of, lookup, remove_entry}
 use Rattle.std.proofs.lemmas.Bool.Decides.{nat_tests}
 use Rattle.rows.specs.Slots.{has_slot, with_row, with_slot, without_slot, released}
-use Rattle.rows.specs.Rows.{row_at, without, AllAbove, IsRising}
+use Rattle.rows.specs.Rows.{row_at, first_above, without, AllAbove, IsRising}
 use Rattle.rows.proofs.Rising.{above_less, none_above}
 use Rattle.rows.proofs.Lengths.{without_none, without_above}
-use Rattle.rows.specs.Entries.{kept, flat, taken, Fits, KeysAbove, StandsAt, IsKept, slots_of}
+use Rattle.rows.specs.Entries.{kept, kept_values, flat, taken, Fits, KeysAbove, StandsAt, IsKept, slots_of}
 
 module _ {R : Type 0} (rank : R → ℕ) where
   -- keys above n have rows above n
@@ -32,6 +34,12 @@ module _ {R : Type 0} (rank : R → ℕ) where
       let none : k ≤ key → row_at rank (kept es) k ≡ None = λ le. none_above rank (kept es) key k (rows_above es key fit.1 fit.2) le in
       grind (arith, nat_tests, looked_up es k fit.2, none)
   looked_up ((key, Some row) ∷ es) k fit = grind (arith, nat_tests, fit.0, looked_up es k fit.2)
+
+  -- the first row behind a key stands above it
+  pub next_kept : (es : List (ℕ × Option R)) (k : ℕ) → IsKept rank es → first_above rank (kept es) k ≡ slice_get (kept (entries_between nat_cmp (Excluded k) Unbounded es)) 0
+  next_kept [] k fit = refl
+  next_kept ((key, None) ∷ es) k fit = grind (arith, nat_tests, next_kept es k fit.2)
+  next_kept ((key, Some row) ∷ es) k fit = grind (arith, nat_tests, fit.0, next_kept es k fit.2)
 
   -- a row below all goes to the front
   pub put_front : (rows : List R) (row : R) → AllAbove rank (rank row) rows → with_row rank rows row ≡ row ∷ rows
@@ -107,6 +115,11 @@ module _ {R : Type 0} where
   count-remove [] k = refl
   count-remove ((key, None) ∷ es) k = grind (arith, nat_tests, count-remove es k)
   count-remove ((key, Some row) ∷ es) k = grind (arith, nat_tests, count-remove es k)
+
+  -- the part without bounds is the whole
+  pub all_between : (es : List (ℕ × Option R)) → entries_between nat_cmp Unbounded Unbounded es ≡ es
+  all_between [] = refl
+  all_between (e ∷ es) = ap (λ (l : List (ℕ × Option R)). e ∷ l) (all_between es)
 
   -- no more rows than entries
   pub count-le : (es : List (ℕ × Option R)) → length (kept es) ≤ length es
@@ -225,3 +238,9 @@ module _ {R : Type 0} (rank : R → ℕ) (es : List (ℕ × Option R)) (k : ℕ)
 pub no_copy : {R : Type 0} (at : Option (Bor R)) → is_some at ≡ false → option_copied at ≡ None
 no_copy None h = refl
 no_copy (Some b) h = cc
+
+-- the rows of the entries are those of their values
+pub kept-values : {R : Type 0} (es : List (ℕ × Option R)) → kept_values (values_of es) ≡ kept es
+kept-values [] = refl
+kept-values ((key, None) ∷ es) = kept-values es
+kept-values {R} ((key, Some row) ∷ es) = ap (λ (rows : List R). row ∷ rows) (kept-values es)

@@ -6,6 +6,7 @@ use Rattle.std.specs.Prelude.{slice_get}
 use Rattle.std.specs.Option.{option_or}
 use Rattle.rows.specs.Rows.{row_at, first_above, added, without, AllAbove, IsRising}
 use Rattle.rows.proofs.Rising.{above_less, none_above}
+use Rattle.rows.proofs.Lengths.{without_above}
 use Rattle.rows.specs.Blocks.{AllBelow, BeginsBy, BeginsAbove}
 
 module _ {R : Type 0} (rank : R → ℕ) where
@@ -108,6 +109,15 @@ module _ {R : Type 0} (rank : R → ℕ) where
       → added rank row (xs ++ (ys ++ zs)) ≡ xs ++ (added rank row ys ++ zs)
   added_within row [] ys zs below above = added_rest row ys zs above
   added_within row (x ∷ xs) ys zs below above = grind (arith, nat_tests, below.0, added_within row xs ys zs below.1 above)
+
+  without_rest : (k : ℕ) (ys zs : List R) → AllAbove rank k zs → without rank (ys ++ zs) k ≡ without rank ys k ++ zs
+  without_rest k [] zs above = without_above rank zs k k above (omega arith)
+  without_rest k (y ∷ ys) zs above = grind (arith, nat_tests, without_rest k ys zs above)
+
+  pub without_within : (k : ℕ) (xs ys zs : List R) → AllBelow rank k xs → AllAbove rank k zs
+      → without rank (xs ++ (ys ++ zs)) k ≡ xs ++ (without rank ys k ++ zs)
+  without_within k [] ys zs below above = without_rest k ys zs above
+  without_within k (x ∷ xs) ys zs below above = grind (arith, nat_tests, below.0, without_within k xs ys zs below.1 above)
 
   added_behind : (row : R) (xs ys : List R) → AllBelow rank (rank row) xs → added rank row (xs ++ ys) ≡ xs ++ added rank row ys
   added_behind row [] ys below = refl

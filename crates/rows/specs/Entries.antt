@@ -44,3 +44,9 @@ module _ {R : Type 0} (rank : R → ℕ) where
 -- what contracts see
 abbrev pub slots_of : {R : Type 0} → List (ℕ × Option R) → Slots R
 slots_of entries = record { rows = kept entries; slots = keys_of entries }
+
+-- the rows of the slots that have one
+abbrev pub kept_values : {R : Type 0} → List (Option R) → List R
+kept_values [] = []
+kept_values (None ∷ rest) = kept_values rest
+kept_values (Some row ∷ rest) = row ∷ kept_values rest

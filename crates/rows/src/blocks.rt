@@ -1,9 +1,9 @@
-ghost use Rattle.std.specs.Prelude.{◌≡◌, ℕ, ◌<◌, ◌≤◌, ◌+◌, ◌-◌, [], length, slice_get, drop, None, true, false, IsTrue, IsOk, IfSome, OnOk, OnErr, option_copied, vec_capacity, vec_len, if◌then◌else◌};
-ghost use Rattle.rows.specs.Rows.{RowList, row_at, first_above, added, IsRising};
+ghost use Rattle.std.specs.Prelude.{◌≡◌, ℕ, ◌<◌, ◌≤◌, ◌+◌, ◌-◌, ◌^◌, [], length, slice_get, drop, None, true, false, IsTrue, IsOk, IfSome, OnOk, OnErr, option_copied, vec_capacity, vec_len, if◌then◌else◌};
+ghost use Rattle.rows.specs.Rows.{RowList, row_at, first_above, added, without, IsRising};
 ghost use Rattle.rows.specs.Blocks.{all_rows, most, AreBlocks, IsHolder};
 
 use crate::Rows;
-use crate::finding::{first_from, holder};
+use crate::finding::{first_from, holder, nth_from};
 use crate::moving::{MOST, add_to_full};
 use sat_base::{NoMemory, Ranked};
 use std::alloc::Global;
@@ -21,10 +21,11 @@ pub struct BlockRows<R: Ranked + Copy> {
     // The next block, made before it is wanted.
     empty: Rows<R>,
     is_ready: bool,
+    count: usize,
 }
 
 impl<R: Ranked + Copy> Model for BlockRows<R> {
-    ghost use Rattle.std.specs.Prelude.{◌≡◌, ℕ, ◌<◌, ◌≤◌, [], length, IsTrue, vec_capacity, vec_len, if◌then◌else◌};
+    ghost use Rattle.std.specs.Prelude.{◌≡◌, ℕ, ◌<◌, ◌≤◌, ◌+◌, ◌^◌, [], length, IsTrue, vec_capacity, vec_len, if◌then◌else◌};
     ghost use Rattle.rows.specs.Rows.{RowList, IsRising};
     ghost use Rattle.rows.specs.Blocks.{all_rows, most, AreBlocks};
 
@@ -36,7 +37,8 @@ impl<R: Ranked + Copy> Model for BlockRows<R> {
       rising : IsRising R.rank (all_rows t.blocks.items);
       blocks : AreBlocks t.blocks.items;
       empty : t.empty.rows ≡ [];
-      ready : IsTrue t.is_ready → (most ≤ t.empty.spare) × (vec_len t.blocks < vec_capacity t.blocks);
+      ready : IsTrue t.is_ready → (most ≤ t.empty.spare) × (vec_len t.blocks < vec_capacity t.blocks) × (t.count + 1 < 2 ^ 64);
+      counted : t.count ≡ length (all_rows t.blocks.items);
     } };
 }
 
@@ -51,7 +53,16 @@ impl<R: Ranked + Copy> BlockRows<R> {
             blocks: Vec::new(alloc),
             empty: Rows::new(alloc),
             is_ready: false,
+            count: 0,
         }
+    }
+
+    /// How many rows there are.
+    pub fn len(&self) -> usize
+        ensures rows { result ≡ length self.now.rows }
+        ensures rising { IsRising R.rank self.now.rows }
+    {
+        self.count
     }
 
     /// Makes room for one more row. Want of memory leaves the rows as they were.
@@ -61,6 +72,9 @@ impl<R: Ranked + Copy> BlockRows<R> {
         ensures err { OnErr result (self.new.spare ≡ self.old.spare) }
     {
         if !self.is_ready {
+            if self.count == usize::MAX {
+                return Err(NoMemory);
+            }
             if self.blocks.capacity() == self.blocks.len() {
                 self.blocks.reserve(1)?;
             }
@@ -104,6 +118,14 @@ impl<R: Ranked + Copy> BlockRows<R> {
         first_from(&self.blocks, 0)
     }
 
+    /// The row at a place, counted from 0. It passes over the blocks before it, and not over their rows.
+    pub fn nth(&self, k: usize) -> Option<&R>
+        ensures row { option_copied result ≡ slice_get self.now.rows k }
+        ensures rising { IsRising R.rank self.now.rows }
+    {
+        nth_from(&self.blocks, k)
+    }
+
     /// Adds a row for which there is room, and whose rank has none. It takes no memory.
     pub fn add(&mut self, row: R)
         requires room { 1 ≤ self.old.spare }
@@ -113,6 +135,7 @@ impl<R: Ranked + Copy> BlockRows<R> {
         ensures spare { self.new.spare + 1 ≡ self.old.spare }
     {
         self.is_ready = false;
+        self.count += 1;
         if self.blocks.is_empty() {
             let mut block = mem::replace(&mut self.empty, Rows::new(self.alloc));
             block.add(row);
@@ -121,6 +144,19 @@ impl<R: Ranked + Copy> BlockRows<R> {
         }
         let at = holder(&self.blocks, row.rank());
         add_at(self.alloc, &mut self.blocks, &mut self.empty, at, row);
+    }
+
+    /// Removes the row of a rank, if there is one. It takes no memory, and leaves the room for one more row.
+    pub fn remove(&mut self, k: u128)
+        ensures rows { self.new.rows ≡ without R.rank self.old.rows k }
+        ensures rising { IsRising R.rank self.new.rows }
+        ensures spare { self.new.spare ≡ self.old.spare }
+    {
+        if self.blocks.is_empty() {
+            return;
+        }
+        let at = holder(&self.blocks, k);
+        self.count -= remove_at(&mut self.blocks, at, k);
     }
 }
 
@@ -151,4 +187,27 @@ fn add_at<R: Ranked + Copy>(
     let mut upper = mem::replace(empty, Rows::new(alloc));
     add_to_full(&mut blocks[at], &mut upper, row);
     blocks.insert(at + 1, upper).unwrap();
+}
+
+// Removes the row of a rank from the block that it would stand in, and the block where it has no other. Tells how many
+// rows that were.
+fn remove_at<R: Ranked>(blocks: &mut Vec<Rows<R>>, at: usize, k: u128) -> usize
+    requires at { at < length blocks.old.items }
+    requires holds { IsHolder R.rank k blocks.old.items at }
+    requires blocks { AreBlocks blocks.old.items }
+    ensures rows { all_rows blocks.new.items ≡ without R.rank (all_rows blocks.old.items) k }
+    ensures blocks { AreBlocks blocks.new.items }
+    ensures len { vec_len blocks.new ≤ vec_len blocks.old }
+    ensures capacity { vec_capacity blocks.new ≡ vec_capacity blocks.old }
+    ensures removed { length (all_rows blocks.new.items) + result ≡ length (all_rows blocks.old.items) }
+{
+    let block = &mut blocks[at];
+    let before = block.len();
+    block.remove(k);
+    let left = block.len();
+    if left > 0 {
+        return before - left;
+    }
+    let _empty = blocks.remove(at);
+    before
 }

@@ -18,6 +18,20 @@ pub(crate) fn first_from<R: Ranked>(blocks: &[Rows<R>], at: usize) -> Option<&R>
     }
 }
 
+// The row at a place among those of all blocks.
+pub(crate) fn nth_from<R: Ranked>(blocks: &[Rows<R>], k: usize) -> Option<&R>
+    ensures { option_copied result ≡ slice_get (all_rows blocks.now) k }
+{
+    let mut left = k;
+    for block in blocks {
+        if left < block.len() {
+            return Some(&block.as_slice()[left]);
+        }
+        left -= block.len();
+    }
+    None
+}
+
 // Whether a block begins at a rank of at most k.
 fn begins_by<R: Ranked>(blocks: &[Rows<R>], at: usize, k: u128) -> bool
     requires at { at < length blocks.now }

@@ -1,15 +1,18 @@
-ghost use Rattle.std.specs.Prelude.{◌≡◌, ℕ, true, false, length, option_copied, IfOk, OnOk, OnErr, IsSome, is_ok, if◌then◌else◌, None, Some};
+ghost use Rattle.std.specs.Prelude.{◌≡◌, ℕ, true, false, length, option_copied, IfOk, OnOk, OnErr, IsSome, is_ok, slice_get, if◌then◌else◌, None, Some};
 ghost use Rattle.std.specs.Ordering.{nat_cmp};
 ghost use Rattle.std.specs.BTreeMap.{insert_entry, get, keys, is_at};
 ghost use Rattle.std.specs.Map.{remove_entry};
-ghost use Rattle.rows.specs.Rows.{row_at, without, IsRising};
-ghost use Rattle.rows.specs.Entries.{flat, taken};
+ghost use Rattle.rows.specs.Rows.{row_at, first_above, without, IsRising};
+ghost use Rattle.rows.specs.Entries.{kept, flat, taken};
 ghost use Rattle.rows.specs.Slots.{no_rows, has_slot, with_row, with_slot, without_slot, released};
 
+use crate::copying::rows_of;
 use sat_base::{NoMemory, Ranked};
 use std::alloc::Global;
 use std::collections::BTreeMap;
+use std::collections::btree_map::Range;
 use std::marker::Model;
+use std::ops::Bound;
 
 /// Rows in the order of their ranks, at most one of a rank, and slots for rows to come.
 ///
@@ -72,6 +75,22 @@ impl<R: Ranked> SlottedRows<R> {
         row_of(self.map.get(&rank))
     }
 
+    /// The first row. It passes over the slots before it.
+    pub fn first(&self) -> Option<&R>
+        ensures row { option_copied result ≡ slice_get self.now.rows 0 }
+        ensures rising { IsRising R.rank self.now.rows }
+    {
+        first_row(self.map.range(..))
+    }
+
+    /// The first row above a rank. It passes over the slots between.
+    pub fn after(&self, rank: u128) -> Option<&R>
+        ensures row { option_copied result ≡ first_above R.rank self.now.rows rank }
+        ensures rising { IsRising R.rank self.now.rows }
+    {
+        first_row(self.map.range((Bound::Excluded(rank), Bound::Unbounded)))
+    }
+
     /// Makes a slot for a rank, if it has none. Want of memory leaves rows and slots as they were.
     pub fn place(&mut self, rank: u128) -> Result<(), NoMemory>
         ensures rows { self.new.rows ≡ self.old.rows }
@@ -124,6 +143,17 @@ impl<R: Ranked> SlottedRows<R> {
     }
 }
 
+impl<R: Ranked + Copy> SlottedRows<R> {
+    /// The rows again, in the order of their ranks.
+    pub fn copied(&self, alloc: Global) -> Result<Vec<R>, NoMemory>
+        ensures rows { IfOk result (λ rows. rows.items ≡ self.now.rows) }
+        ensures rising { IfOk result (λ rows. IsRising R.rank rows.items) }
+    {
+        let rows = rows_of(alloc, &self.map)?;
+        Ok(rows)
+    }
+}
+
 // The row at a slot.
 fn row_of<R>(at: Option<&Option<R>>) -> Option<&R>
     ensures { option_copied result ≡ flat (option_copied at.entry) }
@@ -132,6 +162,18 @@ fn row_of<R>(at: Option<&Option<R>>) -> Option<&R>
         Some(Some(row)) => Some(row),
         _ => None,
     }
+}
+
+// The first row of a part of the slots.
+fn first_row<'a, R>(slots: Range<'a, u128, Option<R>>) -> Option<&'a R>
+    ensures { option_copied result ≡ slice_get (kept slots.entry) 0 }
+{
+    for (_, slot) in slots {
+        if let Some(row) = slot {
+            return Some(row);
+        }
+    }
+    None
 }
 
 // How many rows were at a slot.

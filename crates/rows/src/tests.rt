@@ -1,5 +1,5 @@
 // Rows that come in any order, beside the same rows in one sorted list.
-use crate::{BlockRows, Rows};
+use crate::{BlockRows, Rows, SlottedRows};
 use sat_base::{NoMemory, Ranked};
 use std::test::Fail;
 
@@ -42,9 +42,20 @@ fn put(blocks: &mut BlockRows<Mark>, plain: &mut Rows<Mark>, place: u64) -> Resu
     Ok(())
 }
 
-// Whether both have the same rows, looked up one by one.
+fn put_slot(slots: &mut SlottedRows<Mark>, place: u64) -> Result<(), NoMemory> {
+    let place = u128::from(place);
+    slots.place(place)?;
+    slots.put(Mark { place });
+    Ok(())
+}
+
+// Whether both have the same rows, looked up one by one and by their places.
 fn are_same(blocks: &BlockRows<Mark>, plain: &Rows<Mark>) -> bool {
-    let mut same = blocks.first().copied() == plain.first().copied();
+    let mut same = blocks.len() == plain.len();
+    same = same && blocks.first().copied() == plain.first().copied();
+    for place in 0..2001 {
+        same = same && blocks.nth(place).copied() == plain.as_slice().get(place).copied();
+    }
     for number in 0..2004u64 {
         let place = u128::from(number);
         same = same && blocks.get(place).copied() == plain.get(place).copied();
@@ -65,6 +76,36 @@ fn rows_that_rise_fall_and_spread(rt: HostRuntime) -> Result<(), Fail> {
         }
         assert!(rt; are_same(&blocks, &plain), "{order}");
         assert_eq!(rt; plain.len(), 2000);
+        for turn in 0..1500 {
+            let place = u128::from(place_at(order, turn));
+            blocks.remove(place);
+            plain.remove(place);
+        }
+        assert!(rt; are_same(&blocks, &plain), "{order}");
+        assert_eq!(rt; plain.len(), 500);
     }
+    Ok(())
+}
+
+#[test]
+fn walks_over_empty_slots(rt: HostRuntime) -> Result<(), Fail> {
+    let mut slots = SlottedRows::new(rt.alloc());
+    assert!(rt; slots.first().is_none());
+    for place in [2, 6, 9, 30] {
+        slots.place(place)?;
+    }
+    for place in [5, 8, 20] {
+        put_slot(&mut slots, place)?;
+    }
+    let mut walk = Vec::new(rt.alloc());
+    let mut at = slots.first().copied();
+    for _ in 0..4 {
+        if let Some(mark) = at {
+            walk.push(mark.place)?;
+            at = slots.after(mark.place).copied();
+        }
+    }
+    assert_eq!(rt; walk.as_slice(), [5, 8, 20].as_slice());
+    assert_eq!(rt; slots.after(6).copied(), Some(Mark { place: 8 }));
     Ok(())
 }

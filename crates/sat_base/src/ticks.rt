@@ -14,7 +14,7 @@ pub enum Beat {
 }
 
 /// Ticks, one after another.
-pub trait Ticks: Drop + Send {
+pub trait Ticks: Drop {
     /// How many came, up to 2^64 - 1, and whether none will come any more, which stays so.
     ghost about: { Self → TicksView };
 

@@ -17,8 +17,8 @@ use Rattle.machine_history.specs.History.{Said, IsRight, taken}
 use Rattle.sat_book.specs.Book.{Moves}
 use Rattle.sat_book.specs.Changes.{row_change}
 use Rattle.sat_book.specs.Ids.{AreIds, HasId}
-use Rattle.sat_machine.specs.declared.prepared.Prepared.{Prepared}
-use Rattle.sat_machine.specs.Prepared.{Holds}
+use Rattle.machine_store.specs.declared.prepared.Prepared.{Prepared}
+use Rattle.machine_store.specs.Prepared.{Holds}
 use Rattle.sat_book.specs.declared.answering.Written.TheVariants as written
 use Rattle.sat_book.specs.Kept.{AreWritten, Wrote, Answers}
 use Rattle.sat_book.specs.Legal.{IsFault, shown}

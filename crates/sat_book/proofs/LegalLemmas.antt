@@ -1,9 +1,13 @@
 -- One entry more of a history.
 use Rattle.std.proofs.Common.{◌≡◌, ℕ, suc, zero, ◌+◌, List, [], ◌∷◌, ◌++◌, length, Some, refl, sym, ap, subst, ◌∙◌, arith}
 use Rattle.std.specs.Prelude.{map, slice_get}
-use Rattle.machine_step.specs.Tables.{Tables}
+use Rattle.machine_calls.specs.declared.call.Call.{Call}
+use Rattle.machine_step.specs.Bounds.{IsValid}
+use Rattle.machine_step.specs.Step.{IsByScheme, IsWellFormed}
+use Rattle.machine_step.specs.Tables.{Setup, Tables}
 use Rattle.machine_history.specs.History.{Said, IsRight, IsLegal, replay, taken}
 use Rattle.machine_history.specs.Orders.{AreOfBytes, HasBytes}
+use Rattle.machine_history.proofs.HistoryLemmas.{follows_all}
 use Rattle.sat_book.specs.Legal.{E, said_of, replayed, IsFault, AreFaults, shown, last_shown, IsHistory}
 
 pub replay-one : (t : Tables) (said : List Said) (one : Said) → replay t (said ++ one ∷ []) ≡ taken (replay t said) one
@@ -58,4 +62,13 @@ history-one t count history e lawful place right own fault =
       legal = subst (IsLegal t) (sym (said-one history e)) (legal-one t (map said_of history) (said_of e) lawful.legal right);
       bytes = subst AreOfBytes (sym (said-one history e)) (bytes-one (map said_of history) (said_of e) lawful.bytes own);
       faults = faults-one t count history e lawful.faults fault;
+    }
+
+-- a call that is well formed where a history begins is so behind it, since no step changes what a store is set up with
+pub formed-behind : (start now : Tables) (count : ℕ) (history : List E) (call : Call) → IsValid start → IsHistory start count history → now ≡ replayed start history → IsWellFormed start call → IsWellFormed now call
+formed-behind start now count history call v lawful is well =
+    let setup : (replayed start history).setup ≡ start.setup = (follows_all (map said_of history) start v lawful.legal).grows.setup in
+    record {
+      formed = well.formed;
+      scheme = subst (λ (s : Setup). IsByScheme s call) (sym (ap (λ (t : Tables). t.setup) is ∙ setup)) well.scheme;
     }

@@ -13,9 +13,9 @@ use Rattle.sat_base.specs.declared.keeper.Committed.TheVariants as committed
 use Rattle.machine_step.specs.Bounds.{IsValid}
 use Rattle.machine_step.specs.Tables.{Tables}
 use Rattle.sat_book.specs.Ids.{AreIds}
-use Rattle.sat_machine.specs.Opening.{AreTablesOf, NamesSome, first_broken_of}
-use Rattle.sat_machine.specs.declared.opening.CoreErr.{CoreErr}
-use Rattle.sat_machine.specs.declared.opening.CoreErr.TheVariants as found
+use Rattle.machine_store.specs.Opening.{AreTablesOf, NamesSome, first_broken_of}
+use Rattle.machine_store.specs.declared.opening.CoreErr.{CoreErr}
+use Rattle.machine_store.specs.declared.opening.CoreErr.TheVariants as found
 use Rattle.sat_book.specs.Book.{BookView, IsBook, Keeps, Spell, start_of}
 use Rattle.sat_book.specs.Kept.{Commits}
 use Rattle.sat_book.specs.Legal.{E, IsHistory, last_shown, replayed}

@@ -1,6 +1,11 @@
 -- Records whose rows stand in the order of their keys, as what a machine is made of.
-use Rattle.std.proofs.Common.{◌≡◌, ℕ, suc, ◌<◌, ◌≤◌, false, List, [], ◌∷◌, ◌++◌, length, take, drop, refl, sym, ap, subst, ◌∙◌, arith, lit≤}
-use Rattle.std.specs.Prelude.{map, option_to_list, T}
+use Rattle.std.proofs.Common.{◌≡◌, ℕ, suc, ◌<◌, ◌≤◌, true, false, List, [], ◌∷◌, ◌++◌, length, take, drop, refl, sym, ap, subst, ◌∙◌, arith, lit≤}
+use Rattle.std.specs.Prelude.{map, option_to_list, T, All}
+use Rattle.std.proofs.lemmas.Bool.Decides.{nat_tests}
+use Rattle.std.proofs.lemmas.List.Elements.{All-head, All-tail}
+use Rattle.sat_base.specs.declared.limits.TheConstants as limits
+use Rattle.sat_base.specs.declared.records.At.{At}
+use Rattle.repair_core.specs.declared.plan.RepairPlan.{RepairPlan}
 use Rattle.std.specs.FinMap as maps
 use Rattle.std.specs.FinMap.Entries.{below_all}
 use Rattle.std.specs.Cmp.{ranks, nat_cmp_is}
@@ -22,14 +27,15 @@ use Rattle.tally_payout.specs.Ranks.{tally_rank, statement_rank}
 use Rattle.rows.specs.Rows.{AllAbove, IsRising}
 use Rattle.record_rows.specs.declared.records.Rec.{Rec}
 use Rattle.record_rows.specs.declared.records.Rec.TheVariants as records
-use Rattle.record_rows.specs.Fits.{Fits}
+use Rattle.record_rows.specs.Fits.{Fits, PlacesFit, RepairPlanFits}
 use Rattle.record_rows.specs.Ranks.{rank_of}
 use Rattle.record_rows.specs.Spelling.{kind_of, id_of, row_of}
 use Rattle.machine_calls.specs.declared.parts.Parts0.{Parts0}
-use Rattle.machine_step.specs.Bounds.{Each}
-use Rattle.machine_step.specs.Rules.{first_of}
+use Rattle.machine_step.specs.Bounds.{Each, ArePlacesWithin, IsRepairWithin}
+use Rattle.machine_step.specs.Rules.{are_below}
+use Rattle.machine_step.specs.Health.{first_of}
 use Rattle.machine_step.specs.Tables.{Tables}
-use Rattle.sat_machine.specs.Opening.{AreParts, AreTablesOf, AreTablesWith, tables_made}
+use Rattle.machine_store.specs.Opening.{AreParts, AreTablesOf, AreTablesWith, tables_made}
 use Rattle.sat_book.specs.Ids.{AreIds}
 use Rattle.sat_book.specs.Opened.{AreRecordsOf, listed, rec_lists}
 use Rattle.sat_book.specs.TableRows.{joined, row_list, rows, rows_in}
@@ -56,6 +62,20 @@ same_kind a b is = sym (nat_cmp_is a b Equal is)
 mapped : {R : Type 0} (record_of : R → Rec) (P : R → Type 0) → ((one : R) → Fits (record_of one) → P one) → (all : List R) → Each Fits (map record_of all) → Each P all
 mapped record_of P each [] fit = tt
 mapped record_of P each (one ∷ rest) fit = (each one fit.0, mapped record_of P each rest fit.1)
+
+-- the places of a plan that fit are within their bounds
+all_below : (n : ℕ) (places : List At) → All (λ at. at.index < n) places → are_below n places ≡ true
+all_below n [] low = refl
+all_below n (at ∷ places) low =
+    let here : at.index < n = All-head (λ (x : At). x.index < n) at places low in
+    let rest = all_below n places (All-tail (λ (x : At). x.index < n) at places low) in
+    grind (arith, nat_tests, here, rest)
+
+places_within : (places : List At) → PlacesFit places → ArePlacesWithin places
+places_within places fit = record { by_index = fit.by_index; few = fit.few; below = all_below limits.PLACES places fit.low }
+
+repair_within : (plan : RepairPlan) → RepairPlanFits plan → IsRepairWithin plan
+repair_within plan fits = record { sources = places_within plan.sources fits.sources; targets = places_within plan.targets fits.targets }
 
 module _ (law : StandAsRanks) {R : Type 0} (record_of : R → Rec) (rank : R → ℕ) (kind : ℕ)
     (its_kind : (one : R) → kind_of (record_of one) ≡ kind) (its_rank : (one : R) → rank_of (record_of one) ≡ rank one) where
@@ -186,7 +206,10 @@ module _ (law : StandAsRanks) (all : List Row) (parts : Parts0) (are : AreRecord
     }) parts.settings.items fine_settings.fit;
     marks_within = mapped records.Marks _ (λ one fits. fits.within) parts.marks.items fine_marks.fit;
     segments_within = mapped records.Segment _ (λ one fits. record { by_index = fits.pieces.by_index; few = fits.pieces.few }) parts.segments.items fine_segments.fit;
+    audit_within = mapped records.AuditPlan _ (λ one fits. places_within one.asked fits.asked) parts.audit_plans.items fine_audit_plans.fit;
+    repair_within = mapped records.RepairPlan _ (λ one fits. repair_within one fits) parts.repair_plans.items fine_repair_plans.fit;
     kept_within = mapped records.Kept _ (λ one fits. fits.within) parts.kept.items fine_kept.fit;
+    exit_within = mapped records.ExitPlan _ (λ one fits. repair_within one.plan fits.repair) parts.exit_plans.items fine_exit_plans.fit;
     tariffs_within = mapped records.Tariff _ (λ one fits. fits) parts.tariffs.items fine_tariffs.fit;
   }
 

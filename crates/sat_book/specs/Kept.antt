@@ -12,7 +12,7 @@ use Rattle.machine_calls.specs.declared.change.RecChange.{RecChange}
 use Rattle.machine_step.specs.Bounds.{Each}
 use Rattle.machine_step.specs.Tables.{Tables}
 use Rattle.machine_history.specs.History.{IsRight, taken}
-use Rattle.sat_machine.specs.declared.prepared.Prepared.{Prepared}
+use Rattle.machine_store.specs.declared.prepared.Prepared.{Prepared}
 use Rattle.sat_book.specs.Book.{Moves}
 use Rattle.sat_book.specs.Changes.{row_change}
 use Rattle.sat_book.specs.Ids.{AreIds, HasId}

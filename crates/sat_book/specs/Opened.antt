@@ -16,8 +16,8 @@ use Rattle.record_rows.specs.Spelling.{kind_of, row_of}
 use Rattle.sat_book.specs.declared.opening.OpenErr.{OpenErr}
 use Rattle.sat_book.specs.declared.sorted.Sorted.{Sorted}
 use Rattle.sat_book.specs.declared.opening.OpenErr.TheVariants as errs
-use Rattle.sat_machine.specs.declared.opening.CoreErr.{CoreErr}
-use Rattle.sat_machine.specs.declared.opening.CoreErr.TheVariants as found
+use Rattle.machine_store.specs.declared.opening.CoreErr.{CoreErr}
+use Rattle.machine_store.specs.declared.opening.CoreErr.TheVariants as found
 use Rattle.machine_calls.specs.declared.parts.Parts0.{Parts0}
 use Rattle.machine_step.specs.Bounds.{Each}
 use Rattle.sat_book.specs.TableRows.{joined}

@@ -7,8 +7,8 @@ use Rattle.sat_base.specs.declared.rows.Row.{Row}
 use Rattle.sat_base.specs.declared.rows.Change.{Change}
 use Rattle.machine_calls.specs.declared.parts.Parts0.{Parts0}
 use Rattle.machine_step.specs.Bounds.{IsValid}
-use Rattle.machine_step.specs.Rules.{broken}
-use Rattle.sat_machine.specs.Opening.{first_broken_of}
+use Rattle.machine_step.specs.Broken.{broken}
+use Rattle.machine_store.specs.Opening.{first_broken_of}
 use Rattle.sat_book.specs.Book.{BookView}
 use Rattle.sat_base.specs.declared.keeper.Committed.{Committed}
 use Rattle.sat_base.specs.declared.keeper.Committed.TheVariants as committed

@@ -159,6 +159,14 @@ impl<K: Keeper> Book<K> {
         &self.core
     }
 
+    // No step changes what a store is set up with, so that a call that was well formed at the start is so now.
+    fn admits(&self, call: &Call)
+        requires { IsWellFormed (start_of self.now.opening) call.now }
+        ensures { IsWellFormed self.now.tables call.now }
+    {
+        let _core = &self.core;
+    }
+
     /// The keeper, the rows that the book was opened with, and the history. It takes no memory.
     pub fn close(self) -> (K, Vec<Row>, Vec<Entry>)
         ensures keeper { result.0 ≡ self.keeper }
@@ -218,6 +226,7 @@ impl<K: Keeper> Turn for Book<K> {
     ghost well_formed = { MayEnter };
 
     fn turn(&mut self, pass: u32, call: Call) -> Answered {
+        self.admits(&call);
         self.apply(pass, call)
     }
 }

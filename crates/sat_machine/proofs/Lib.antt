@@ -1,8 +1,6 @@
-pub mod StoreLemmas
-pub mod NodeLemmas
-pub mod PieceLemmas
+pub mod StayLemmas
+pub mod Doable
+pub mod PlanDoables
 pub mod StepLemmas
-pub mod CaseLemmas
-pub mod OpeningLemmas
-pub mod MadeLemmas
-pub mod BrokenLemmas
+pub mod SweepLemmas
+pub mod FootingLemmas

@@ -1,4 +1,2 @@
-pub mod Store
-pub mod Prepared
 pub mod Machine
-pub mod Opening
+pub mod Sweep

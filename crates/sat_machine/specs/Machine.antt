@@ -1,13 +1,13 @@
 -- What contracts see of the machine: its tables, and the call whose step is prepared.
-use Rattle.std.specs.Prelude.{◌≡◌, Option, IfSome}
+use Rattle.std.specs.Prelude.{Option, IfSome}
 use Rattle.std.specs.Option.{option_map}
 use Rattle.std.specs.declared.snapshot.Snapshot.{Snapshot}
 use Rattle.machine_calls.specs.declared.call.Call.{Call}
 use Rattle.machine_step.specs.Tables.{Tables}
 use Rattle.machine_step.specs.Step.{step, IsWellFormed}
 use Rattle.machine_step.specs.Bounds.{IsValid}
-use Rattle.sat_machine.specs.declared.store.Store.{Store}
-use Rattle.sat_machine.specs.Store.{tables_of, GoesBySettings, ArePlaced}
+use Rattle.machine_store.specs.declared.store.Store.{Store}
+use Rattle.machine_store.specs.Store.{tables_of, GoesByTables, HasRoom}
 
 pub record Machine : Type 0 where
   pub tables : Tables
@@ -19,10 +19,10 @@ call_of pending = option_map (λ snapshot. snapshot.value) pending
 -- a pending call is well formed, and there is room for the changes of its step
 pub record IsPrepared (s : Store) (call : Call) : Type 0 where
   pub formed : IsWellFormed (tables_of s) call
-  pub placed : ArePlaced s (step (tables_of s) call).changes
+  pub room : HasRoom s (step (tables_of s) call).changes
 
 -- what holds of every machine
 pub record IsReady (s : Store) (pending : Option Call) : Type 0 where
   pub valid : IsValid (tables_of s)
-  pub own : GoesBySettings s
+  pub own : GoesByTables s
   pub prepared : IfSome pending (IsPrepared s)

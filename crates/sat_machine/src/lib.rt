@@ -9,24 +9,16 @@
 //! - [`Core::finish`] makes the step's tables, [`Core::forget`] leaves them.
 //! - The tables of every machine at every moment keep every rule ([`Core::marks`]).
 //!
-//! Contracts see the tables, and the call whose step is prepared. A call has one function in `src/calls`, which tests
-//! its refusals from top to bottom.
+//! Contracts see the tables, and the call whose step is prepared. What comes of a call is worked out by
+//! `machine_requests` and `machine_upkeep`; behind its changes the containments fall that it leaves without a footing.
 //!
 //! Not promised: that memory is found, or that a step is written anywhere. The records that [`Core::new`] is given
 //! have to be in order and within bounds.
 #![tactic(auto)]
 
-mod absent;
-mod answers;
-mod calls;
 mod machine;
-mod making;
-mod opening;
-mod places;
-mod prepared;
-mod store;
+mod sweep;
 
 pub use machine::Core;
 pub use machine_calls::{Call, Parts0, RecChange, Refusal, Reply, TableName};
-pub use opening::CoreErr;
-pub use prepared::Prepared;
+pub use machine_store::{CoreErr, Prepared};

@@ -1,25 +1,24 @@
 // The machine: a step is prepared, and then finished or forgotten.
-ghost use Rattle.std.specs.Prelude.{◌≡◌, max, None, Some, IfOk, OnOk, OnErr, IfSome, IsSomeAnd};
+ghost use Rattle.std.specs.Prelude.{◌≡◌, [], None, Some, IfOk, OnOk, OnErr, IfSome, IsSomeAnd};
 ghost use Rattle.machine_step.specs.Bounds.{IsValid};
-ghost use Rattle.machine_step.specs.Step.{risen, asking, case_of, step, after, HasItsWords, IsWellFormed};
+ghost use Rattle.machine_step.specs.Step.{case_of, step, after, IsWellFormed};
 ghost use Rattle.machine_step.specs.Tables.{setup_of};
-ghost use Rattle.sat_machine.specs.Opening.{AreParts, Tests, first_broken_of, AreTablesOf};
-ghost use Rattle.sat_machine.specs.Prepared.{Holds};
-ghost use Rattle.sat_machine.specs.Store.{tables_of, GoesBySettings};
+ghost use Rattle.machine_store.specs.Opening.{AreParts, Tests, first_broken_of, AreTablesOf};
+ghost use Rattle.machine_store.specs.Prepared.{Holds};
+ghost use Rattle.machine_store.specs.Store.{tables_of, GoesByTables};
 
-use crate::calls::{add_customer, add_node, begin, commit, delete, get, set_free, settle};
-use crate::making::store_of;
-use crate::opening::{CoreErr, rule_err};
-use crate::prepared::{Prepared, refused, unchanged};
-use crate::store::{Store, place_all, release_all, take_step};
-use machine_calls::{Asking, Call, Parts0, Refusal, Reply, rules};
-use sat_base::{CustomerId, Marks, Moment, NoMemory, Settings, kinds};
+use crate::sweep::sweep;
+use machine_calls::{Call, Parts0, Refusal, Reply, rules};
+use machine_requests::request_case;
+use machine_store::{
+    CoreErr, Prepared, Store, place_all, refresh, refused, release_all, rule_err, store_of,
+    take_step,
+};
+use machine_upkeep::upkeep_case;
+use sat_base::{Marks, NoMemory, Settings, kinds};
 use std::alloc::Global;
 use std::marker::Model;
 use std::snapshot::Snapshot;
-
-// The caller of what the operator asks.
-const OPERATOR: CustomerId = CustomerId(0);
 
 /// The machine. Contracts see its tables, and the call whose step is prepared and neither finished nor forgotten, if
 /// there is one. Its tables keep every rule at every moment.
@@ -36,119 +35,49 @@ impl Model for Core {
     ghost Value = { Machine };
 
     ghost use Rattle.sat_machine.specs.Machine.{IsReady, call_of};
-    ghost use Rattle.sat_machine.specs.Store.{tables_of};
+    ghost use Rattle.machine_store.specs.Store.{tables_of};
 
     ghost view = { λ m. record { tables = tables_of m.store; pending = call_of m.pending } };
 
     ghost invariant = { λ m. IsReady m.store (call_of m.pending) };
 }
 
-// The moment of a call: no earlier than that of an accepted one.
-fn risen(store: &Store, now: Moment) -> Moment
-    ensures { result ≡ risen (tables_of store.now) now }
-{
-    if store.marks.time.seconds() < now.seconds() {
-        now
-    } else {
-        store.marks.time
-    }
-}
-
-// Who asks, under which number, at the moment of the call.
-fn asking(store: &Store, caller: CustomerId, number: u64, now: Moment) -> Asking
-    ensures { result ≡ asking (tables_of store.now) caller number now }
-{
-    Asking {
-        caller,
-        number,
-        time: risen(store, now),
-    }
-}
-
 // What comes of a call where the machine wasn't stopped.
 fn case_of(alloc: Global, store: &Store, call: &Call) -> Result<Prepared, NoMemory>
     requires valid { IsValid (tables_of store.now) }
-    requires own { GoesBySettings store.now }
-    requires words { HasItsWords call.now }
+    requires own { GoesByTables store.now }
+    requires fresh { store.now.segments.pending ≡ [] }
+    requires formed { IsWellFormed (tables_of store.now) call.now }
     ensures { IfOk result (λ p. Holds p (case_of (tables_of store.now) call.now)) }
 {
     match call {
-        Call::AddNode {
-            now,
-            request,
-            addr,
-            port,
-            free,
-        } => {
-            let asking = asking(store, OPERATOR, *request, *now);
-            add_node(alloc, store, &asking, *addr, *port, *free)
-        }
-        Call::AddCustomer { now, request } => {
-            add_customer(alloc, store, &asking(store, OPERATOR, *request, *now))
-        }
-        Call::Begin {
-            now,
-            customer,
-            request,
-            len,
-            words,
-        } => {
-            let asking = asking(store, *customer, *request, *now);
-            begin(alloc, store, &asking, *len, words.as_slice())
-        }
-        Call::Commit {
-            now,
-            customer,
-            request,
-            segment,
-            indexes,
-        } => {
-            let asking = asking(store, *customer, *request, *now);
-            commit(alloc, store, &asking, *segment, indexes)
-        }
-        Call::Get {
-            now,
-            customer,
-            request,
-            segment,
-        } => get(
-            alloc,
-            store,
-            &asking(store, *customer, *request, *now),
-            *segment,
-        ),
-        Call::Delete {
-            now,
-            customer,
-            request,
-            segment,
-        } => delete(
-            alloc,
-            store,
-            &asking(store, *customer, *request, *now),
-            *segment,
-        ),
-        Call::Settle { now, node, bytes } => {
-            settle(alloc, store, risen(store, *now), *node, bytes.as_slice())
-        }
-        Call::SetFree { now, node, free } => {
-            set_free(alloc, store, risen(store, *now), *node, *free)
-        }
-        Call::Stop => Ok(unchanged(alloc, Reply::Stopping)),
+        Call::AddNode { .. }
+        | Call::AddCustomer { .. }
+        | Call::Begin { .. }
+        | Call::Commit { .. }
+        | Call::Get { .. }
+        | Call::Delete { .. }
+        | Call::Settle { .. }
+        | Call::SetFree { .. }
+        | Call::Exit { .. }
+        | Call::Stop => request_case(alloc, store, call),
+        _ => upkeep_case(alloc, store, call),
     }
 }
 
 // What comes of a call.
 fn step(alloc: Global, store: &Store, call: &Call) -> Result<Prepared, NoMemory>
     requires valid { IsValid (tables_of store.now) }
-    requires own { GoesBySettings store.now }
+    requires own { GoesByTables store.now }
+    requires fresh { store.now.segments.pending ≡ [] }
     requires formed { IsWellFormed (tables_of store.now) call.now }
     ensures { IfOk result (λ p. Holds p (step (tables_of store.now) call.now)) }
 {
     if store.stopped {
         return Ok(refused(alloc, Refusal::Stopped));
     }
-    case_of(alloc, store, call)
+    let prepared = case_of(alloc, store, call)?;
+    sweep(alloc, store, prepared)
 }
 
 impl Core {
@@ -185,6 +114,7 @@ impl Core {
         ensures pending { OnOk result (self.new.pending ≡ Some call.now) }
         ensures err { OnErr result (self.new.pending ≡ None) }
     {
+        refresh(&mut self.store)?;
         let prepared = step(self.alloc, &self.store, call)?;
         if place_all(&mut self.store, &prepared.changes).is_err() {
             release_all(&mut self.store, &prepared.changes);

@@ -7,9 +7,10 @@ use Rattle.desk_runs.specs.Entered.{At}
 use Rattle.desk_runs.proofs.Entering.{stands}
 use Rattle.machine_calls.specs.declared.call.Call.{Call}
 use Rattle.machine_calls.specs.declared.reply.Reply.{Reply}
-use Rattle.machine_calls.specs.Replies.{is_told, is_lost, is_sayable}
+use Rattle.machine_calls.specs.Replies.{is_request, is_told, is_lost, is_sayable}
 use Rattle.machine_step.specs.Tables.{Tables}
-use Rattle.machine_step.specs.Step.{IsFormed}
+use Rattle.machine_step.specs.Step.{IsAsked}
+use Rattle.machine_step.proofs.Asked.{asked_well_formed}
 use Rattle.machine_step.proofs.Replies.{step_sayable}
 use Rattle.machine_history.specs.History.{Said, IsLegal, IsRight, taken}
 use Rattle.sat_book.specs.Book.{AreOf, MayEnter, start_of}
@@ -26,22 +27,22 @@ right_in t (x ∷ h) (suc i) e l a = right_in (taken t (said_of x)) h i e l.1 a
 pub right_at : (start : Tables) (count : ℕ) (h : List E) (place : ℕ) (e : E) → IsHistory start count h → At h place e → IsRight (tables_at start h place) (said_of e)
 right_at start count h place e lawful at = right_in start h place e lawful.legal at
 
-sayable_right : (t : Tables) (said : Said) → IsRight t said → is_sayable said.reply ≡ true
-sayable_right t said r = go (is_lost said.reply) refl
+sayable_right : (t : Tables) (said : Said) → is_request said.call ≡ true → IsRight t said → is_sayable said.reply ≡ true
+sayable_right t said asked r = go (is_lost said.reply) refl
   where
     go : (b : Bool) → is_lost said.reply ≡ b → is_sayable said.reply ≡ true
     go true h = right_of (is_told said.reply) (is_lost said.reply) h
-    go false h = ap is_sayable (r.answer h) ∙ step_sayable t said.call
+    go false h = ap is_sayable (r.answer h) ∙ step_sayable t said.call asked
 
-sayable_in : {K : Type 0} (base : Option (Origin K)) (h : List E) (place : ℕ) (e : E) → AreOf base h → At h place e → is_sayable e.reply ≡ true
-sayable_in None h place e lawful at = absurd lawful
-sayable_in (Some origin) h place e lawful at = sayable_right (tables_at (start_of origin.opening) h place) (said_of e) (right_at (start_of origin.opening) origin.opening.faults h place e lawful at)
+sayable_in : {K : Type 0} (base : Option (Origin K)) (h : List E) (place : ℕ) (e : E) → is_request e.call ≡ true → AreOf base h → At h place e → is_sayable e.reply ≡ true
+sayable_in None h place e asked lawful at = absurd lawful
+sayable_in (Some origin) h place e asked lawful at = sayable_right (tables_at (start_of origin.opening) h place) (said_of e) asked (right_at (start_of origin.opening) origin.opening.faults h place e lawful at)
 
--- the reply of a call that was entered can be said
-pub sayable_entered : {K : Type 0} (k : V K) (call : Call) (reply : Reply) (place : ℕ) (k' : V K) → Enters AreOf k call reply place k' → is_sayable reply ≡ true
-sayable_entered k call reply place k' d = sayable_in k.base k'.seen place (record { place = place; pass = k.number; call = call; reply = reply }) d.just (stands AreOf k call reply place k' d)
+-- the reply of a request that was entered can be said
+pub sayable_entered : {K : Type 0} (k : V K) (call : Call) (reply : Reply) (place : ℕ) (k' : V K) → is_request call ≡ true → Enters AreOf k call reply place k' → is_sayable reply ≡ true
+sayable_entered k call reply place k' asked d = sayable_in k.base k'.seen place (record { place = place; pass = k.number; call = call; reply = reply }) asked d.just (stands AreOf k call reply place k' d)
 
--- a call that is formed may be entered
-pub may_enter : {K : Type 0} (base : Option (Origin K)) (call : Call) → IsSome base → IsFormed call → MayEnter base call
-may_enter None call some formed = absurd (cc)
-may_enter (Some origin) call some formed = formed
+-- a request that is formed may be entered
+pub may_enter : {K : Type 0} (base : Option (Origin K)) (call : Call) → IsSome base → IsAsked call → MayEnter base call
+may_enter None call some asked = absurd (cc)
+may_enter (Some origin) call some asked = asked_well_formed (start_of origin.opening) call asked

@@ -31,6 +31,9 @@ moments_in call = moment_of call ∷ []
 -- the random words of a call
 abbrev pub words_in : Call → List ℕ
 words_in (calls.Begin now customer request len words) = words
+words_in (calls.PlanAudit now words) = words
+words_in (calls.PlanRepair now words) = words
+words_in (calls.PlanExit now words) = words
 words_in _ = []
 
 abbrev pub moments_of : List E → List ℕ

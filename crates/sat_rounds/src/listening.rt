@@ -1,6 +1,6 @@
 // A connection is listened to.
 ghost use Rattle.std.specs.Prelude.{◌≡◌, ◌≤◌, ◌<◌, ℕ, List, length, not, IsTrue, false};
-ghost use Rattle.machine_step.specs.Step.{IsFormed};
+ghost use Rattle.machine_step.specs.Step.{IsAsked};
 ghost use Rattle.sat_base.specs.Outside.{CountsExactly, with_front};
 ghost use Rattle.sat_base.specs.Streams.{Took};
 ghost use Rattle.http_edge.specs.Requests.{MayRead, max_request};
@@ -13,7 +13,7 @@ use sat_base::{Clock, Drawn, Items, Link, Moment, Words, Words64};
 use std::alloc::Global;
 
 /// What a connection asks.
-#[derive(Debug, PartialEq, Eq, Drop)]
+#[derive(Debug, Drop)]
 pub enum Listened {
     /// A call of the machine.
     Call(Call),
@@ -43,7 +43,7 @@ pub fn listen<N: Link, T: Clock, W: Words>(
       faults = W.faults words.old;
       faults_after = W.faults words.new;
     }) result }
-    ensures ready { IfCall result IsFormed }
+    ensures ready { IfCall result IsAsked }
     ensures took { (bytes : List ℕ) × Took (MayRead keys.now) bytes 1 (failed_to_read result)
         (N.about link.old) (N.about link.new) × (length bytes ≤ max_request) }
     ensures words_faults { CountsExactly (failed_to_draw result) (W.faults words.old) (W.faults words.new) }

@@ -1,6 +1,6 @@
 // One connection, from its bytes to its answer.
 ghost use Rattle.std.specs.Prelude.{◌≡◌, false, IsSome, IfSome};
-ghost use Rattle.machine_step.specs.Step.{IsFormed};
+ghost use Rattle.machine_step.specs.Step.{IsAsked};
 ghost use Rattle.sat_book.specs.Book.{start_of};
 ghost use Rattle.sat_rounds.specs.Good.{IsAnswered, IsGood};
 ghost use Rattle.sat_rounds.specs.Listening.{IfCall};
@@ -121,7 +121,7 @@ fn answer_to<K: Keeper, N: Link, R: Wait>(
 ) -> Served<K>
     requires desk { pass.desk ≡ desk.now }
     requires base { IsSome pass.base }
-    requires formed { IfCall heard IsFormed }
+    requires formed { IfCall heard IsAsked }
     ensures { Answers keys.now pass heard (N.about link.old) (N.about link.new) result.end result.stops result.pass }
 {
     match heard {
@@ -161,7 +161,7 @@ fn answer_call<K: Keeper, N: Link, R: Wait>(
 ) -> Served<K>
     requires desk { pass.desk ≡ desk.now }
     requires base { IsSome pass.base }
-    requires formed { IsFormed call }
+    requires formed { IsAsked call }
     ensures { Answers keys.now pass (Listened.Call call) (N.about link.old) (N.about link.new) result.end result.stops result.pass }
 {
     match desk.enter(rt, pass, call) {

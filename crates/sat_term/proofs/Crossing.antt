@@ -22,7 +22,7 @@ use Rattle.sat_book.specs.contracts.book.Book as Book
 use Rattle.sat_book.specs.contracts.book.Book.TheInside as Inside
 use Rattle.sat_book.specs.contracts.opening.Opening as Opening
 use Rattle.sat_book.specs.contracts.opening.Origin as Origin
-use Rattle.sat_machine.proofs.store.Store.TheSendSync as store
+use Rattle.machine_store.proofs.store.Store.TheSendSync as store
 use Rattle.sat_machine.specs.contracts.machine.Core as Core
 use Rattle.turnstile.proofs.entry.Entry.TheSendSync as entry
 use Rattle.turnstile.specs.contracts.entry.Entry as Entry

@@ -18,8 +18,8 @@ use turnstile::Desk;
 pub(crate) fn work_lanes<
     K: Keeper + Send,
     L: Lane,
-    T: Clock,
-    W: Words,
+    T: Clock + Send,
+    W: Words + Send,
     G: Gate,
     R: Threads + Wait + Sync,
 >(

@@ -46,8 +46,8 @@ pub struct NotServed<K: Keeper, L, T, W, A, B, C> {
 pub fn serve_term<
     K: Keeper + Send,
     L: Lane,
-    T: Clock,
-    W: Words,
+    T: Clock + Send,
+    W: Words + Send,
     A: RoundKit + Send,
     B: RoundKit + Send,
     C: RoundKit + Send,

@@ -50,7 +50,14 @@ fn part<K: Keeper>(desk: &Desk<Book<K>>, pass: BookPass<K>) -> Parts<K>
 }
 
 // Works the lanes, with numbers enough for 16.
-fn work_posts<K: Keeper + Send, L: Lane, T: Clock, W: Words, G: Gate, R: Threads + Wait + Sync>(
+fn work_posts<
+    K: Keeper + Send,
+    L: Lane,
+    T: Clock + Send,
+    W: Words + Send,
+    G: Gate,
+    R: Threads + Wait + Sync,
+>(
     rt: &R,
     alloc: Global,
     desk: &Desk<Book<K>>,
@@ -75,8 +82,8 @@ fn work_posts<K: Keeper + Send, L: Lane, T: Clock, W: Words, G: Gate, R: Threads
 pub(crate) fn work_all<
     K: Keeper + Send,
     L: Lane,
-    T: Clock,
-    W: Words,
+    T: Clock + Send,
+    W: Words + Send,
     A: RoundKit + Send,
     B: RoundKit + Send,
     C: RoundKit + Send,

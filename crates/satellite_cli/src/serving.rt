@@ -101,8 +101,8 @@ pub(crate) fn serve<
     C: Link,
     K: Keeper + Send,
     L: Lane,
-    T: Clock,
-    W: Words,
+    T: Clock + Send,
+    W: Words + Send,
     G: Gate,
     R: Threads + Wait + Sync,
 >(

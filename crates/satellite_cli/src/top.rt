@@ -27,7 +27,7 @@ use std::alloc::Global;
 use std::sync::Wait;
 use std::thread::Threads;
 
-fn ended<C: Link, K: Keeper + Send, L: Lane, N, T: Clock, W: Words, I, G: Gate>(
+fn ended<C: Link, K: Keeper + Send, L: Lane, N, T: Clock + Send, W: Words + Send, I, G: Gate>(
     status: Status,
     world: World<C, K, L, N, T, W, I, G>,
 ) -> Ended<C, K, L, N, T, W, I, G>
@@ -41,7 +41,7 @@ fn ended<C: Link, K: Keeper + Send, L: Lane, N, T: Clock, W: Words, I, G: Gate>(
 }
 
 // `init` over a world.
-fn init_world<C: Link, K: Keeper + Send, L: Lane, N, T: Clock, W: Words, I, G: Gate>(
+fn init_world<C: Link, K: Keeper + Send, L: Lane, N, T: Clock + Send, W: Words + Send, I, G: Gate>(
     alloc: Global,
     setup: &Setup,
     world: World<C, K, L, N, T, W, I, G>,
@@ -78,8 +78,8 @@ fn serve_world<
     K: Keeper + Send,
     L: Lane,
     N,
-    T: Clock,
-    W: Words,
+    T: Clock + Send,
+    W: Words + Send,
     I,
     G: Gate,
     R: Threads + Wait + Sync,
@@ -151,8 +151,8 @@ pub fn satellite<
     K: Keeper + Send,
     L: Lane,
     N,
-    T: Clock,
-    W: Words,
+    T: Clock + Send,
+    W: Words + Send,
     I,
     G: Gate,
     R: Threads + Wait + Sync,

@@ -1,3 +1,4 @@
 pub mod ByIndex
 pub mod Chosen
 pub mod Offers
+pub mod RisingLemmas

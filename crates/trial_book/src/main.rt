@@ -22,19 +22,8 @@ mod session;
 
 use anyhow::Result;
 use session::Session;
-use std::io;
-use std::io::{BufWriter, Write};
+use trial_lines::answer_input;
 
 fn main(rt: HostRuntime) -> Result<()> {
-    let alloc = rt.alloc();
-    let input = io::read_to_string(alloc, rt.reader())?;
-    let lines: Vec<&str> = input.lines().collect(alloc)?;
-    let mut session = Session::new(alloc);
-    let mut output = BufWriter::new(alloc, io::writer(&rt))?;
-    for line in &lines {
-        let answer = session.answer(&lines, line)?;
-        writeln!(output, "{answer}")?;
-    }
-    output.flush()?;
-    Ok(())
+    answer_input(&rt, Session::new(rt.alloc()))
 }

@@ -6,7 +6,7 @@ use sat_book::NotOpened;
 use std::alloc::Global;
 use std::mem;
 use trial_calls::{call, told};
-use trial_lines::{Fields, LineErr, keeper_of, told_row};
+use trial_lines::{Answers, Fields, LineErr, keeper_of, told_row};
 use trial_shelf::{Shelf, change_of_line, changes_below, keys_of, told_open};
 
 // A book has room for so many entries.
@@ -36,46 +36,12 @@ impl Session {
         }
     }
 
-    /// The answer to a line, among all lines.
-    pub fn answer(&mut self, lines: &[&str], line: &str) -> Result<String, NoMemory> {
-        if line.is_empty() || line.starts_with('#') {
-            return Ok(String::from_str(self.alloc, line)?);
-        }
-        match self.taken(lines, line) {
-            Ok(answer) => Ok(answer),
-            Err(LineErr::Bad) => Ok(String::from_str(self.alloc, "bad-line")?),
-            Err(LineErr::NoMemory) => Err(NoMemory),
-        }
-    }
-
-    fn taken(&mut self, lines: &[&str], line: &str) -> Result<String, LineErr> {
-        let mut fields = Fields::of_line(line, 0);
-        let word = fields.word()?;
-        if word == "store" {
-            self.changes.clear();
-            self.failing.clear();
-            self.keeper = None;
-            self.shelf = None;
-            return Ok(String::from_str(self.alloc, line)?);
-        }
-        if self.shelf.is_some() {
-            return self.asked(line);
-        }
-        match word {
-            "open" => {
-                fields.end()?;
-                self.open()
-            }
-            "rows" => {
-                fields.end()?;
-                self.rows()
-            }
-            "init" => self.init(&mut fields),
-            _ => {
-                self.note(lines, line)?;
-                Ok(String::from_str(self.alloc, "noted")?)
-            }
-        }
+    // No rows again, and neither keeper nor book.
+    fn begin(&mut self) {
+        self.changes.clear();
+        self.failing.clear();
+        self.keeper = None;
+        self.shelf = None;
     }
 
     // The keeper that is there, or one of the rows that were noted.
@@ -169,5 +135,34 @@ impl Session {
         let (keeper, entries) = shelf.close();
         self.keeper = Some(keeper);
         Ok(format!(in self.alloc; "entries {entries}")?)
+    }
+}
+
+impl Answers for Session {
+    fn answer(&mut self, lines: &[&str], line: &str) -> Result<String, LineErr> {
+        let mut fields = Fields::of_line(line, 0);
+        let word = fields.word()?;
+        if word == "store" {
+            self.begin();
+            return Ok(String::from_str(self.alloc, line)?);
+        }
+        if self.shelf.is_some() {
+            return self.asked(line);
+        }
+        match word {
+            "open" => {
+                fields.end()?;
+                self.open()
+            }
+            "rows" => {
+                fields.end()?;
+                self.rows()
+            }
+            "init" => self.init(&mut fields),
+            _ => {
+                self.note(lines, line)?;
+                Ok(String::from_str(self.alloc, "noted")?)
+            }
+        }
     }
 }

@@ -1,6 +1,6 @@
 // Calls, one a line: the name, the moment, and then the fields in their order.
 ghost use Rattle.std.specs.Prelude.{◌≡◌, length, IfOk};
-ghost use Rattle.machine_step.specs.Step.{IsFormed};
+ghost use Rattle.machine_step.specs.Step.{IsAsked};
 
 use crate::orders::order;
 use machine_calls::Call;
@@ -9,9 +9,9 @@ use sat_base::{CustomerId, Items, Moment, NodeId, SegId, Words64};
 use std::alloc::Global;
 use trial_lines::{Fields, LineErr};
 
-/// The call that a line says. Orders are made with the store's keys.
+/// The request that a line says. Orders are made with the store's keys.
 pub fn call(alloc: Global, keys: &Keys, fields: &mut Fields<'_>) -> Result<Call, LineErr>
-    ensures { IfOk result IsFormed }
+    ensures { IfOk result IsAsked }
 {
     let call = match fields.word()? {
         "add-node" => add_node(fields)?,
@@ -22,6 +22,7 @@ pub fn call(alloc: Global, keys: &Keys, fields: &mut Fields<'_>) -> Result<Call,
         "delete" => delete(fields)?,
         "settle" => settle(alloc, keys, fields)?,
         "set-free" => set_free(fields)?,
+        "exit" => exit(fields)?,
         "stop" => Call::Stop,
         _ => return Err(LineErr::Bad),
     };
@@ -35,7 +36,7 @@ fn moment(fields: &mut Fields<'_>) -> Result<Moment, LineErr> {
 
 // NOW REQUEST ADDR PORT FREE.
 fn add_node(fields: &mut Fields<'_>) -> Result<Call, LineErr>
-    ensures { IfOk result IsFormed }
+    ensures { IfOk result IsAsked }
 {
     Ok(Call::AddNode {
         now: moment(fields)?,
@@ -48,7 +49,7 @@ fn add_node(fields: &mut Fields<'_>) -> Result<Call, LineErr>
 
 // NOW REQUEST.
 fn add_customer(fields: &mut Fields<'_>) -> Result<Call, LineErr>
-    ensures { IfOk result IsFormed }
+    ensures { IfOk result IsAsked }
 {
     Ok(Call::AddCustomer {
         now: moment(fields)?,
@@ -58,22 +59,22 @@ fn add_customer(fields: &mut Fields<'_>) -> Result<Call, LineErr>
 
 // NOW CUSTOMER REQUEST LEN WORDS.
 fn begin(alloc: Global, fields: &mut Fields<'_>) -> Result<Call, LineErr>
-    ensures { IfOk result IsFormed }
+    ensures { IfOk result IsAsked }
 {
     Ok(Call::Begin {
         now: moment(fields)?,
         customer: CustomerId(fields.number()?),
         request: fields.number()?,
         len: fields.number()?,
-        words: words(alloc, fields)?,
+        words: words(alloc, 128, fields)?,
     })
 }
 
-// 128 words, by a generator from a start, `from START`, or as a list of numbers that come round again.
-fn words(alloc: Global, fields: &mut Fields<'_>) -> Result<Words64, LineErr>
-    ensures { IfOk result (λ words. length words ≡ 128) }
+/// So many words, by a generator from a start, `from START`, or as a list of numbers that come round again.
+pub fn words(alloc: Global, count: usize, fields: &mut Fields<'_>) -> Result<Words64, LineErr>
+    ensures { IfOk result (λ words. length words ≡ count) }
 {
-    let mut words = vec![in alloc; 0u64; 128]?;
+    let mut words = vec![in alloc; 0u64; count]?;
     let mut list = *fields;
     if fields.word()? == "from" {
         let mut state: u64 = fields.number()?;
@@ -97,7 +98,7 @@ fn words(alloc: Global, fields: &mut Fields<'_>) -> Result<Words64, LineErr>
 
 // NOW CUSTOMER REQUEST SEGMENT INDEXES.
 fn commit(alloc: Global, fields: &mut Fields<'_>) -> Result<Call, LineErr>
-    ensures { IfOk result IsFormed }
+    ensures { IfOk result IsAsked }
 {
     Ok(Call::Commit {
         now: moment(fields)?,
@@ -110,7 +111,7 @@ fn commit(alloc: Global, fields: &mut Fields<'_>) -> Result<Call, LineErr>
 
 // NOW CUSTOMER REQUEST SEGMENT.
 fn get(fields: &mut Fields<'_>) -> Result<Call, LineErr>
-    ensures { IfOk result IsFormed }
+    ensures { IfOk result IsAsked }
 {
     Ok(Call::Get {
         now: moment(fields)?,
@@ -122,7 +123,7 @@ fn get(fields: &mut Fields<'_>) -> Result<Call, LineErr>
 
 // NOW CUSTOMER REQUEST SEGMENT.
 fn delete(fields: &mut Fields<'_>) -> Result<Call, LineErr>
-    ensures { IfOk result IsFormed }
+    ensures { IfOk result IsAsked }
 {
     Ok(Call::Delete {
         now: moment(fields)?,
@@ -134,7 +135,7 @@ fn delete(fields: &mut Fields<'_>) -> Result<Call, LineErr>
 
 // NOW NODE ORDER.
 fn settle(alloc: Global, keys: &Keys, fields: &mut Fields<'_>) -> Result<Call, LineErr>
-    ensures { IfOk result IsFormed }
+    ensures { IfOk result IsAsked }
 {
     Ok(Call::Settle {
         now: moment(fields)?,
@@ -145,11 +146,21 @@ fn settle(alloc: Global, keys: &Keys, fields: &mut Fields<'_>) -> Result<Call, L
 
 // NOW NODE FREE.
 fn set_free(fields: &mut Fields<'_>) -> Result<Call, LineErr>
-    ensures { IfOk result IsFormed }
+    ensures { IfOk result IsAsked }
 {
     Ok(Call::SetFree {
         now: moment(fields)?,
         node: NodeId(fields.number()?),
         free: fields.number()?,
+    })
+}
+
+// NOW NODE.
+fn exit(fields: &mut Fields<'_>) -> Result<Call, LineErr>
+    ensures { IfOk result IsAsked }
+{
+    Ok(Call::Exit {
+        now: moment(fields)?,
+        node: NodeId(fields.number()?),
     })
 }

@@ -1,11 +1,14 @@
 // The records of a store, one a line: the name of the kind, and then the fields in their order.
+use crate::plans::{audit_plan, digest, exit_plan, recheck_plan, repair_plan};
 use crate::segments::segment;
+use audit_core::{AuditPlan, RecheckPlan};
 use machine_calls::Parts0;
-use node_registry::{Node, Status};
+use node_registry::{Left, Node, Status};
 use order_limits::Action;
+use repair_core::{ExitPlan, RepairPlan};
 use sat_base::{
-    Caps, Customer, CustomerId, Hour, Kept, Marks, Moment, Month, NodeId, Rates, Scheme, Serial,
-    Settings, Tariff,
+    Caps, Containment, Customer, CustomerId, Hour, Kept, Marks, Moment, Month, NodeId, Rates,
+    Scheme, SegId, Serial, Settings, Tariff,
 };
 use segment_core::Segment;
 use settlement::SettledRow;
@@ -21,7 +24,13 @@ pub enum Record {
     Customer(Customer),
     Segment(Segment),
     Settled(SettledRow),
+    AuditPlan(AuditPlan),
+    RecheckPlan(RecheckPlan),
+    RepairPlan(RepairPlan),
+    Containment(Containment),
     Kept(Kept),
+    ExitPlan(ExitPlan),
+    Left(Left),
     Tariff(Tariff),
 }
 
@@ -34,7 +43,13 @@ pub fn record_of(alloc: Global, fields: &mut Fields<'_>) -> Result<Record, LineE
         "customer" => Record::Customer(customer(fields)?),
         "segment" => Record::Segment(segment(alloc, fields)?),
         "settled" => Record::Settled(settled(fields)?),
+        "audit-plan" => Record::AuditPlan(audit_plan(alloc, fields)?),
+        "recheck-plan" => Record::RecheckPlan(recheck_plan(fields)?),
+        "repair-plan" => Record::RepairPlan(repair_plan(alloc, fields)?),
+        "containment" => Record::Containment(containment(fields)?),
         "kept" => Record::Kept(kept(alloc, fields)?),
+        "exit-plan" => Record::ExitPlan(exit_plan(alloc, fields)?),
+        "left" => Record::Left(left(fields)?),
         "tariff" => Record::Tariff(tariff(fields)?),
         _ => return Err(LineErr::Bad),
     };
@@ -65,7 +80,13 @@ pub fn put_record(parts: &mut Parts0, place: Option<usize>, record: Record) -> R
         Record::Customer(row) => put(&mut parts.customers, place, row),
         Record::Segment(row) => put(&mut parts.segments, place, row),
         Record::Settled(row) => put(&mut parts.settled, place, row),
+        Record::AuditPlan(row) => put(&mut parts.audit_plans, place, row),
+        Record::RecheckPlan(row) => put(&mut parts.recheck_plans, place, row),
+        Record::RepairPlan(row) => put(&mut parts.repair_plans, place, row),
+        Record::Containment(row) => put(&mut parts.containments, place, row),
         Record::Kept(row) => put(&mut parts.kept, place, row),
+        Record::ExitPlan(row) => put(&mut parts.exit_plans, place, row),
+        Record::Left(row) => put(&mut parts.left, place, row),
         Record::Tariff(row) => put(&mut parts.tariffs, place, row),
     }
 }
@@ -79,7 +100,13 @@ pub fn clear(parts: &mut Parts0, kind: &str) -> Result<(), LineErr> {
         "customer" => parts.customers.clear(),
         "segment" => parts.segments.clear(),
         "settled" => parts.settled.clear(),
+        "audit-plan" => parts.audit_plans.clear(),
+        "recheck-plan" => parts.recheck_plans.clear(),
+        "repair-plan" => parts.repair_plans.clear(),
+        "containment" => parts.containments.clear(),
         "kept" => parts.kept.clear(),
+        "exit-plan" => parts.exit_plans.clear(),
+        "left" => parts.left.clear(),
         "tariff" => parts.tariffs.clear(),
         _ => return Err(LineErr::Bad),
     }
@@ -88,10 +115,7 @@ pub fn clear(parts: &mut Parts0, kind: &str) -> Result<(), LineErr> {
 
 // SECRET K M O N SHARE VET FRESH, the caps, FIRST-MONTH.
 fn settings(fields: &mut Fields<'_>) -> Result<Settings, LineErr> {
-    let mut secret = [0; 32];
-    if hex::decode_to_slice(fields.word()?, &mut secret).is_err() {
-        return Err(LineErr::Bad);
-    }
+    let secret = digest(fields)?;
     Ok(Settings {
         secret,
         scheme: scheme(fields)?,
@@ -192,6 +216,32 @@ fn kept(alloc: Global, fields: &mut Fields<'_>) -> Result<Kept, LineErr> {
         number: fields.number()?,
         asked: asked(alloc, fields)?,
         done: done(alloc, fields)?,
+    })
+}
+
+// NODE SEGMENT INDEX STRIPE EXPECT TRIES, EXPECT as 64 hexadecimal digits.
+fn containment(fields: &mut Fields<'_>) -> Result<Containment, LineErr> {
+    let node = NodeId(fields.number()?);
+    let segment = SegId(fields.number()?);
+    let index = fields.number()?;
+    let stripe = fields.number()?;
+    let expect = digest(fields)?;
+    let tries = fields.number()?;
+    Ok(Containment {
+        node,
+        segment,
+        index,
+        stripe,
+        expect,
+        tries,
+    })
+}
+
+// NODE AT.
+fn left(fields: &mut Fields<'_>) -> Result<Left, LineErr> {
+    Ok(Left {
+        node: NodeId(fields.number()?),
+        at: Moment::of(fields.number()?),
     })
 }
 

@@ -33,17 +33,19 @@ fn is_by_index(pieces: &[At]) -> bool
     true
 }
 
-fn at(fields: &mut Fields<'_>) -> Result<At, LineErr> {
+/// INDEX:NODE.
+pub fn piece(fields: &mut Fields<'_>) -> Result<At, LineErr> {
     let mut parts = fields.parts()?;
-    let at = At {
+    let piece = At {
         index: parts.number()?,
         node: NodeId(parts.number()?),
     };
     parts.end()?;
-    Ok(at)
+    Ok(piece)
 }
 
-fn pieces(alloc: Global, fields: &mut Fields<'_>) -> Result<Vec<At>, LineErr>
+/// Pieces apart by commas. A list in which indexes don't rise hasn't the form.
+pub fn pieces(alloc: Global, fields: &mut Fields<'_>) -> Result<Vec<At>, LineErr>
     ensures { IfOk result (λ pieces. IsByIndex pieces.items) }
 {
     let mut list = fields.list()?;
@@ -52,7 +54,7 @@ fn pieces(alloc: Global, fields: &mut Fields<'_>) -> Result<Vec<At>, LineErr>
         if list.is_done() {
             break;
         }
-        pieces.push(at(&mut list)?)?;
+        pieces.push(piece(&mut list)?)?;
     }
     if is_by_index(&pieces) {
         Ok(pieces)
@@ -61,7 +63,7 @@ fn pieces(alloc: Global, fields: &mut Fields<'_>) -> Result<Vec<At>, LineErr>
     }
 }
 
-/// ID CUSTOMER LEN VERSION PIECES. A list in which indexes don't rise hasn't the form.
+/// ID CUSTOMER LEN VERSION PIECES.
 pub fn segment(alloc: Global, fields: &mut Fields<'_>) -> Result<Segment, LineErr> {
     let id = SegId(fields.number()?);
     let customer = CustomerId(fields.number()?);

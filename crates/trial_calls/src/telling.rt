@@ -4,18 +4,22 @@ use machine_calls::Reply;
 use sat_base::{Done, NoMemory, Offer, Place};
 use std::alloc::Global;
 
-/// What a call was answered.
+/// What a request was answered.
 pub fn told(alloc: Global, reply: &Reply) -> Result<String, NoMemory> {
     Ok(match reply {
         Reply::Done(done) => told_done(alloc, done)?,
         Reply::Settled { amount } => format!(in alloc; "settled {amount}")?,
         Reply::Again { amount } => format!(in alloc; "again {amount}")?,
         Reply::FreeSet => String::from_str(alloc, "free-set")?,
+        Reply::Exiting { node } => {
+            let id = node.0;
+            format!(in alloc; "exiting {id}")?
+        }
         Reply::Stopping => String::from_str(alloc, "stopping")?,
         Reply::Refused(refusal) => told_refusal(alloc, refusal)?,
         Reply::StoreFault { before, after } => format!(in alloc; "store-fault {before} {after}")?,
         Reply::NoMemory => String::from_str(alloc, "no-memory")?,
-        // No call that a line can say has another reply.
+        // No request that a line can say has another reply.
         _ => String::from_str(alloc, "another")?,
     })
 }
@@ -57,8 +61,8 @@ fn told_offer(alloc: Global, offer: &Offer) -> Result<String, NoMemory> {
     Ok(told)
 }
 
-// Each is INDEX:NODE:ADDR:PORT, and `-` is none.
-fn put_places(alloc: Global, out: &mut String, places: &[Place]) -> Result<(), NoMemory> {
+/// Places, each as INDEX:NODE:ADDR:PORT, apart by commas. `-` is none.
+pub fn put_places(alloc: Global, out: &mut String, places: &[Place]) -> Result<(), NoMemory> {
     if places.is_empty() {
         out.push_str("-")?;
     }

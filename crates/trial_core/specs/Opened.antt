@@ -9,10 +9,10 @@ use Rattle.node_registry.specs.Left.{left_rank}
 use Rattle.sat_base.specs.declared.settings.Settings.{Settings}
 use Rattle.machine_calls.specs.declared.parts.Parts0.{Parts0}
 use Rattle.sat_base.specs.Limits.{AreMarksWithin, IsKeptWithin, IsTariffWithin}
-use Rattle.machine_step.specs.Bounds.{Each, IsSetupWithin, IsSegmentWithin}
+use Rattle.machine_step.specs.Bounds.{Each, IsSetupWithin, IsSegmentWithin, IsAuditWithin, IsRepairWithin, IsExitWithin}
 use Rattle.machine_step.specs.Tables.{setup_of}
-use Rattle.machine_step.specs.Rules.{Broken}
-use Rattle.sat_machine.specs.Opening.{NamesSome}
+use Rattle.machine_step.specs.Broken.{Broken}
+use Rattle.machine_store.specs.Opening.{NamesSome}
 use Rattle.trial_core.specs.declared.trial.OpenErr.{OpenErr}
 use Rattle.trial_core.specs.declared.trial.OpenErr.TheVariants as errs
 
@@ -39,7 +39,10 @@ pub record AreBounded (parts : Parts0) : Type 0 where
   pub setup : Each (λ (s : Settings). IsSetupWithin (setup_of s)) parts.settings.items
   pub marks : Each AreMarksWithin parts.marks.items
   pub segments : Each IsSegmentWithin parts.segments.items
+  pub audit : Each IsAuditWithin parts.audit_plans.items
+  pub repair : Each IsRepairWithin parts.repair_plans.items
   pub kept : Each IsKeptWithin parts.kept.items
+  pub exit : Each IsExitWithin parts.exit_plans.items
   pub tariffs : Each IsTariffWithin parts.tariffs.items
 
 -- a machine is made where no rule is broken; otherwise the error names the least one that is, or memory is wanting. Of records that are unfit nothing is said

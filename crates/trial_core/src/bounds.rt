@@ -1,9 +1,12 @@
 // The bounds of each record beside the rules of the tables.
 ghost use Rattle.std.specs.Prelude.{◌≡◌, ◌↔◌, ◌≤◌, IsTrue};
 ghost use Rattle.sat_base.specs.Limits.{AreMarksWithin, IsAskedWithin, IsDoneWithin, IsKeptWithin, IsTariffWithin};
-ghost use Rattle.machine_step.specs.Bounds.{Each, IsSetupWithin, IsSegmentWithin};
+ghost use Rattle.machine_step.specs.Bounds.{Each, IsSetupWithin, IsSegmentWithin, IsAuditWithin, IsRepairWithin, IsExitWithin};
 ghost use Rattle.machine_step.specs.Tables.{setup_of};
 
+use crate::places::are_places;
+use audit_core::AuditPlan;
+use repair_core::{ExitPlan, RepairPlan};
 use sat_base::{Asked, Done, Kept, Marks, Settings, Tariff, limits};
 use segment_core::Segment;
 
@@ -54,6 +57,37 @@ impl Bounded for Segment {
 
     fn is_within(&self) -> bool {
         self.pieces.len() <= limits::PLACES as usize
+    }
+}
+
+impl Bounded for AuditPlan {
+    ghost bounds = { IsAuditWithin };
+
+    fn is_within(&self) -> bool {
+        are_places(self.asked.as_slice())
+    }
+}
+
+// Whether sources and targets are within their bounds.
+fn is_repair(plan: &RepairPlan) -> bool
+    ensures { IsTrue result ↔ IsRepairWithin plan.now }
+{
+    are_places(plan.sources.as_slice()) && are_places(plan.targets.as_slice())
+}
+
+impl Bounded for RepairPlan {
+    ghost bounds = { IsRepairWithin };
+
+    fn is_within(&self) -> bool {
+        is_repair(self)
+    }
+}
+
+impl Bounded for ExitPlan {
+    ghost bounds = { IsExitWithin };
+
+    fn is_within(&self) -> bool {
+        is_repair(&self.plan)
     }
 }
 

@@ -12,6 +12,7 @@
 mod bounds;
 mod order;
 mod parts;
+mod places;
 mod trial;
 
 pub use parts::are_parts;

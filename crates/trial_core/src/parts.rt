@@ -1,6 +1,6 @@
 // Whether records are in order and in bounds.
 ghost use Rattle.std.specs.Prelude.{◌↔◌, IsTrue};
-ghost use Rattle.sat_machine.specs.Opening.{AreParts};
+ghost use Rattle.machine_store.specs.Opening.{AreParts};
 ghost use Rattle.trial_core.specs.Opened.{AreOrdered, AreBounded};
 
 use crate::bounds::are_within;
@@ -43,6 +43,9 @@ fn are_bounded(parts: &Parts0) -> bool
     are_within(&parts.settings)
         && are_within(&parts.marks)
         && are_within(&parts.segments)
+        && are_within(&parts.audit_plans)
+        && are_within(&parts.repair_plans)
         && are_within(&parts.kept)
+        && are_within(&parts.exit_plans)
         && are_within(&parts.tariffs)
 }

@@ -1,11 +1,11 @@
 // A machine that is asked at once.
 ghost use Rattle.std.specs.Prelude.{◌≡◌, ◌↔◌, None, Err, IfOk, OnErr};
-ghost use Rattle.machine_step.specs.Step.{step, after, IsWellFormed};
-ghost use Rattle.sat_machine.specs.Opening.{AreParts, AreTablesOf, first_broken_of};
+ghost use Rattle.machine_step.specs.Step.{step, after, IsSchemeOf, IsWellFormed};
+ghost use Rattle.machine_store.specs.Opening.{AreParts, AreTablesOf, first_broken_of};
 ghost use Rattle.trial_core.specs.Opened.{Opens};
 
 use crate::parts::are_parts;
-use sat_base::NoMemory;
+use sat_base::{NoMemory, Scheme};
 use sat_machine::{Call, Core, CoreErr, Parts0, Reply};
 use std::alloc::Global;
 use std::marker::Model;
@@ -52,7 +52,14 @@ impl Trial {
         }
     }
 
-    /// Takes the step of a call. A `Begin` has 128 words.
+    /// The scheme of the store.
+    pub fn scheme(&self) -> &Scheme
+        ensures { IsSchemeOf self.now.setup result.now }
+    {
+        &self.core.settings().scheme
+    }
+
+    /// Takes the step of a call.
     pub fn ask(&mut self, call: &Call) -> Result<Reply, NoMemory>
         requires { IsWellFormed self.old call.now }
         ensures reply { IfOk result (λ reply. reply ≡ (step self.old call.now).reply) }
@@ -63,12 +70,22 @@ impl Trial {
         Ok(self.core.finish(prepared))
     }
 
+    /// Takes the step of a call, which is gone then.
+    pub fn take(&mut self, call: Call) -> Result<Reply, NoMemory>
+        requires { IsWellFormed self.old call }
+        ensures reply { IfOk result (λ reply. reply ≡ (step self.old call).reply) }
+        ensures tables { IfOk result (λ _. self.new ≡ after self.old call) }
+        ensures err { OnErr result (self.new ≡ self.old) }
+    {
+        self.ask(&call)
+    }
+
     /// Prepares the step of a call, and gives it up. The reply is what the step would have been answered with.
-    pub fn forgo(&mut self, call: &Call) -> Result<(), NoMemory>
-        requires { IsWellFormed self.old call.now }
+    pub fn forgo(&mut self, call: Call) -> Result<(), NoMemory>
+        requires { IsWellFormed self.old call }
         ensures { self.new ≡ self.old }
     {
-        let prepared = self.core.prepare(call)?;
+        let prepared = self.core.prepare(&call)?;
         self.core.forget(prepared);
         Ok(())
     }

@@ -1,13 +1,16 @@
 // What is tried: the records of a store that are noted, and then its machine.
+ghost use Rattle.std.specs.Prelude.{IfOk};
+ghost use Rattle.machine_step.specs.Step.{IsWellFormed};
+
 use crate::telling::told_open;
-use machine_calls::Parts0;
+use machine_calls::{Call, Parts0, Reply};
 use order_limits::Keys;
-use sat_base::NoMemory;
 use std::alloc::Global;
 use std::mem;
-use trial_calls::{call, clear, put_record, record_of, told};
+use trial_calls::{clear, put_record, record_of};
 use trial_core::{OpenErr, Trial};
-use trial_lines::{Fields, LineErr};
+use trial_lines::{Answers, Fields, LineErr};
+use trial_upkeep::{call_of, told_reply};
 
 /// A store that is being made, or its machine.
 #[derive(Drop)]
@@ -36,35 +39,10 @@ impl Session {
         }
     }
 
-    /// The answer to a line, among all lines.
-    pub fn answer(&mut self, lines: &[&str], line: &str) -> Result<String, NoMemory> {
-        if line.is_empty() || line.starts_with('#') {
-            return Ok(String::from_str(self.alloc, line)?);
-        }
-        match self.taken(lines, line) {
-            Ok(answer) => Ok(answer),
-            Err(LineErr::Bad) => Ok(String::from_str(self.alloc, "bad-line")?),
-            Err(LineErr::NoMemory) => Err(NoMemory),
-        }
-    }
-
-    fn taken(&mut self, lines: &[&str], line: &str) -> Result<String, LineErr> {
-        let mut fields = Fields::of_line(line, 0);
-        let word = fields.word()?;
-        if word == "store" {
-            self.parts = Parts0::new(self.alloc);
-            self.trial = None;
-            return Ok(String::from_str(self.alloc, line)?);
-        }
-        if self.trial.is_some() {
-            return self.asked(word, line, fields);
-        }
-        if word == "open" {
-            fields.end()?;
-            return self.open();
-        }
-        self.note(lines, word, line, fields)?;
-        Ok(String::from_str(self.alloc, "noted")?)
+    // No records again, and no machine.
+    fn begin(&mut self) {
+        self.parts = Parts0::new(self.alloc);
+        self.trial = None;
     }
 
     // A machine of the records that were noted.
@@ -140,17 +118,53 @@ impl Session {
 
     // Asks the machine, or prepares a call and gives it up.
     fn asked(&mut self, word: &str, line: &str, fields: Fields<'_>) -> Result<String, LineErr> {
-        let is_forgone = word == "forgo";
-        let line = if is_forgone { fields.rest() } else { line };
-        let call = call(self.alloc, &self.keys, &mut Fields::of_line(line, 0))?;
         let Some(trial) = &mut self.trial else {
             return Err(LineErr::Bad);
         };
-        if is_forgone {
-            trial.forgo(&call)?;
+        if word == "forgo" {
+            forgone(self.alloc, &self.keys, trial, fields.rest())?;
             return Ok(String::from_str(self.alloc, "forgone")?);
         }
-        let reply = trial.ask(&call)?;
-        Ok(told(self.alloc, &reply)?)
+        let reply = replied(self.alloc, &self.keys, trial, line)?;
+        Ok(told_reply(self.alloc, reply)?)
     }
+}
+
+impl Answers for Session {
+    fn answer(&mut self, lines: &[&str], line: &str) -> Result<String, LineErr> {
+        let mut fields = Fields::of_line(line, 0);
+        let word = fields.word()?;
+        if word == "store" {
+            self.begin();
+            return Ok(String::from_str(self.alloc, line)?);
+        }
+        if self.trial.is_some() {
+            return self.asked(word, line, fields);
+        }
+        if word == "open" {
+            fields.end()?;
+            return self.open();
+        }
+        self.note(lines, word, line, fields)?;
+        Ok(String::from_str(self.alloc, "noted")?)
+    }
+}
+
+// The call that a line says, by the scheme of the machine that is to take it.
+fn call_for(alloc: Global, keys: &Keys, trial: &Trial, line: &str) -> Result<Call, LineErr>
+    ensures { IfOk result (IsWellFormed trial.now) }
+{
+    call_of(alloc, keys, trial.scheme(), &mut Fields::of_line(line, 0))
+}
+
+// What a call is answered.
+fn replied(alloc: Global, keys: &Keys, trial: &mut Trial, line: &str) -> Result<Reply, LineErr> {
+    let call = call_for(alloc, keys, trial, line)?;
+    Ok(trial.take(call)?)
+}
+
+// Prepares a call and gives it up.
+fn forgone(alloc: Global, keys: &Keys, trial: &mut Trial, line: &str) -> Result<(), LineErr> {
+    let call = call_for(alloc, keys, trial, line)?;
+    Ok(trial.forgo(call)?)
 }

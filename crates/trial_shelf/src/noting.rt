@@ -1,12 +1,14 @@
 // The rows of a store, by lines.
-ghost use Rattle.std.specs.Prelude.{IsTrue};
+ghost use Rattle.std.specs.Prelude.{◌≤◌, IsTrue, length};
 ghost use Rattle.sat_base.specs.Limits.{IsKeptWithin};
 
 use order_limits::Keys;
 use record_rows::{
-    Rec, RowErr, read, upgrade, write_customer, write_kept, write_marks, write_node, write_segment,
-    write_settings, write_settled, write_tariff,
+    Rec, RowErr, read, upgrade, write_audit_plan, write_containment, write_customer,
+    write_exit_plan, write_kept, write_left, write_marks, write_node, write_recheck_plan,
+    write_repair_plan, write_segment, write_settings, write_settled, write_tariff,
 };
+use repair_core::RepairPlan;
 use sat_base::{Asked, Change, Done, Kept, NoMemory, Row, kinds};
 use std::alloc::Global;
 use trial_calls::{Record, record_of};
@@ -27,6 +29,13 @@ fn is_short(kept: &Kept) -> bool
     asked && done
 }
 
+// Whether the places of a repair fit a row.
+fn is_short_plan(plan: &RepairPlan) -> bool
+    ensures { IsTrue result → (length plan.now.sources ≤ 128) × (length plan.now.targets ≤ 128) }
+{
+    plan.sources.len() <= 128 && plan.targets.len() <= 128
+}
+
 /// The row of a record, but not of one with more items in a list than a row has.
 pub fn row_of(alloc: Global, record: &Record) -> Result<Option<Row>, NoMemory> {
     Ok(Some(match record {
@@ -36,6 +45,12 @@ pub fn row_of(alloc: Global, record: &Record) -> Result<Option<Row>, NoMemory> {
         Record::Customer(one) => write_customer(alloc, one)?,
         Record::Segment(one) if one.pieces.len() <= 128 => write_segment(alloc, one)?,
         Record::Settled(one) => write_settled(alloc, one)?,
+        Record::AuditPlan(one) if one.asked.len() <= 128 => write_audit_plan(alloc, one)?,
+        Record::RecheckPlan(one) => write_recheck_plan(alloc, one)?,
+        Record::RepairPlan(one) if is_short_plan(one) => write_repair_plan(alloc, one)?,
+        Record::Containment(one) => write_containment(alloc, one)?,
+        Record::ExitPlan(one) if is_short_plan(&one.plan) => write_exit_plan(alloc, one)?,
+        Record::Left(one) => write_left(alloc, one)?,
         Record::Kept(one) if is_short(one) => write_kept(alloc, one)?,
         Record::Tariff(one) => write_tariff(alloc, one)?,
         _ => return Ok(None),

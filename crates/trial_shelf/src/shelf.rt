@@ -1,6 +1,6 @@
 // A book that is asked as long as it has room.
 ghost use Rattle.std.specs.Prelude.{◌≡◌, ◌≤◌};
-ghost use Rattle.machine_step.specs.Step.{IsWellFormed};
+ghost use Rattle.machine_step.specs.Step.{IsAsked};
 
 use machine_calls::{Call, Reply};
 use sat_base::Keeper;
@@ -35,9 +35,10 @@ impl<K: Keeper> Shelf<K> {
         Ok(Shelf { book, left: term })
     }
 
-    /// What a call is answered, while there is room.
+    /// What a request is answered, while there is room.
+    #[tactic(auto, using(machine_step::proofs::Asked::asked_well_formed))]
     pub fn ask(&mut self, call: Call) -> Option<Reply>
-        requires { IsWellFormed self.old.tables call }
+        requires { IsAsked call }
     {
         if self.left == 0 {
             return None;

@@ -3,7 +3,7 @@ ghost use Rattle.std.specs.Prelude.{◌≡◌, true};
 ghost use Rattle.std.specs.Option.{ForSome};
 ghost use Rattle.machine_calls.specs.Replies.{is_sayable};
 ghost use Rattle.sat_rounds.specs.Speaking.{IsSayable};
-ghost use Rattle.machine_step.specs.Step.{IsFormed};
+ghost use Rattle.machine_step.specs.Step.{IsAsked};
 ghost use Rattle.sat_rounds.specs.Listening.{IfCall};
 ghost use Rattle.trial_wire.specs.Serving.{Serves, IsAnswered, IsSaid, Replies};
 
@@ -57,7 +57,7 @@ impl<T: Clock, W: Words> Desk<T, W> {
 
     // Takes the step of the call, and answers.
     fn answer<N: Link>(&mut self, alloc: Global, link: &mut N, heard: &Listened) -> bool
-        requires { IfCall heard.now IsFormed }
+        requires { IfCall heard.now IsAsked }
         ensures answered { IsAnswered self.old.keys self.old.trial self.new.trial heard.now (N.about link.old) (N.about link.new) result }
         ensures clock { self.new.clock ≡ self.old.clock }
         ensures words { self.new.words ≡ self.old.words }
@@ -71,7 +71,7 @@ impl<T: Clock, W: Words> Desk<T, W> {
 
 // What is said to what was heard.
 fn said_to(trial: &mut Trial, heard: &Listened) -> Option<Said>
-    requires { IfCall heard.now IsFormed }
+    requires { IfCall heard.now IsAsked }
     ensures said { IsSaid trial.old trial.new heard.now result }
     ensures sayable { ForSome result IsSayable }
 {
@@ -84,9 +84,9 @@ fn said_to(trial: &mut Trial, heard: &Listened) -> Option<Said>
 }
 
 // The reply of a call's step.
-#[tactic(auto, using(machine_step::proofs::Replies::step_sayable))]
+#[tactic(auto, using(machine_step::proofs::Replies::step_sayable, machine_step::proofs::Asked::asked_well_formed))]
 fn reply_to(trial: &mut Trial, call: &Call) -> Reply
-    requires { IsFormed call.now }
+    requires { IsAsked call.now }
     ensures replies { Replies trial.old trial.new call.now result }
     ensures sayable { is_sayable result ≡ true }
 {

@@ -1,12 +1,11 @@
 // Connections that a line each says, before one desk after another.
 use crate::desk::Desk;
 use crate::records::{SECRET, parts_of};
-use anyhow::bail;
 use order_limits::Keys;
 use sat_base::{MemClock, MemLink, MemWords, NoMemory};
 use sat_rounds::{Said, speak};
 use std::alloc::Global;
-use trial_lines::{Fields, LineErr, bytes_of, text_of};
+use trial_lines::{Answers, Fields, LineErr, bytes_of, text_of};
 
 /// A desk with words for one segment, whose clock stands still.
 #[derive(Drop)]
@@ -15,7 +14,8 @@ pub struct Lines {
     desk: Desk<MemClock, MemWords>,
 }
 
-fn desk_of(alloc: Global) -> anyhow::Result<Desk<MemClock, MemWords>> {
+// A fresh desk.
+pub(crate) fn desk_of(alloc: Global) -> anyhow::Result<Desk<MemClock, MemWords>> {
     let clock = MemClock::of(vec![in alloc; 1_772_323_200]?);
     let words = MemWords::of(vec![in alloc; 5; 128]?, Vec::new(alloc));
     Desk::open(alloc, parts_of(alloc)?, clock, words)
@@ -38,35 +38,12 @@ impl Lines {
         })
     }
 
-    /// The answer to a line.
-    pub fn answer(&mut self, line: &str) -> anyhow::Result<String> {
-        if line.is_empty() || line.starts_with('#') {
-            return Ok(String::from_str(self.alloc, line)?);
-        }
-        if line == "desk" {
-            self.desk = desk_of(self.alloc)?;
-            return Ok(String::from_str(self.alloc, line)?);
-        }
-        match self.taken(line) {
-            Ok(answer) => Ok(answer),
-            Err(LineErr::Bad) => Ok(String::from_str(self.alloc, "bad-line")?),
-            Err(LineErr::NoMemory) => bail!("out of memory"),
-        }
-    }
-
-    fn taken(&mut self, line: &str) -> Result<String, LineErr> {
-        let mut fields = Fields::of_line(line, 0);
-        match fields.word()? {
-            "serve" => self.serve(fields.rest(), Vec::new(self.alloc)),
-            "fail" => {
-                let failing = fields.numbers(self.alloc)?;
-                self.serve(fields.rest(), failing)
-            }
-            "begin" => self.begin(fields.rest()),
-            "fronts" => self.serve_fronts(fields.rest()),
-            "term" => self.term(),
-            _ => Err(LineErr::Bad),
-        }
+    fn begin_again(&mut self) -> Result<(), LineErr> {
+        let Ok(desk) = desk_of(self.alloc) else {
+            return Err(LineErr::NoMemory);
+        };
+        self.desk = desk;
+        Ok(())
     }
 
     // Whether all was written to a connection with this input, and what was written.
@@ -114,5 +91,27 @@ impl Lines {
         let word = if sent { "all" } else { "cut" };
         let text = text_of(self.alloc, link.written())?;
         Ok(format!(in self.alloc; "{word} {text}")?)
+    }
+}
+
+impl Answers for Lines {
+    fn answer(&mut self, _lines: &[&str], line: &str) -> Result<String, LineErr> {
+        let mut fields = Fields::of_line(line, 0);
+        match fields.word()? {
+            "desk" => {
+                fields.end()?;
+                self.begin_again()?;
+                Ok(String::from_str(self.alloc, line)?)
+            }
+            "serve" => self.serve(fields.rest(), Vec::new(self.alloc)),
+            "fail" => {
+                let failing = fields.numbers(self.alloc)?;
+                self.serve(fields.rest(), failing)
+            }
+            "begin" => self.begin(fields.rest()),
+            "fronts" => self.serve_fronts(fields.rest()),
+            "term" => self.term(),
+            _ => Err(LineErr::Bad),
+        }
     }
 }

@@ -30,46 +30,34 @@ mod records;
 
 use anyhow::{Result, bail};
 use desk::Desk;
-use lines::Lines;
-use records::parts_of;
-use sat_base::{MemClock, MemWords};
+use lines::{Lines, desk_of};
+use sat_base::{Link, MemClock, MemWords};
 use sat_devices::Console;
-use std::io::{BufWriter, Write};
+use std::alloc::Global;
 use std::{env, io};
+use trial_lines::answer_input;
+
+// Whether a desk serves the connection of a link whole.
+fn serves<N: Link>(alloc: Global, desk: Desk<MemClock, MemWords>, link: &mut N) -> bool {
+    let mut desk = desk;
+    desk.serve(alloc, link)
+}
 
 // Serves the connection over the console.
 fn serve_console(rt: &HostRuntime) -> Result<()> {
     let alloc = rt.alloc();
-    let clock = MemClock::of(vec![in alloc; 1_772_323_200]?);
-    let words = MemWords::of(vec![in alloc; 5; 128]?, Vec::new(alloc));
-    let parts = parts_of(alloc)?;
-    let mut desk = Desk::open(alloc, parts, clock, words)?;
     let mut console = Console::new(rt.reader(), io::writer(rt));
-    if !desk.serve(alloc, &mut console) {
-        bail!("the answer could not be written");
+    if serves(alloc, desk_of(alloc)?, &mut console) {
+        return Ok(());
     }
-    Ok(())
-}
-
-// Answers each line.
-fn answer_lines(rt: &HostRuntime) -> Result<()> {
-    let alloc = rt.alloc();
-    let input = io::read_to_string(alloc, rt.reader())?;
-    let mut lines = Lines::new(alloc)?;
-    let mut output = BufWriter::new(alloc, io::writer(rt))?;
-    for line in input.lines() {
-        let answer = lines.answer(line)?;
-        writeln!(output, "{answer}")?;
-    }
-    output.flush()?;
-    Ok(())
+    bail!("the answer could not be written")
 }
 
 fn main(rt: HostRuntime) -> Result<()> {
     let mut words = env::args(&rt)?.skip(1);
     match words.next() {
         None => serve_console(&rt),
-        Some(word) if word.as_str() == "lines" => answer_lines(&rt),
+        Some(word) if word.as_str() == "lines" => answer_input(&rt, Lines::new(rt.alloc())?),
         Some(_) => bail!("no words, or `lines`"),
     }
 }

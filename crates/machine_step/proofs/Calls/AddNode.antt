@@ -1,59 +1,20 @@
 -- What adding a node changes fits.
-use Rattle.std.proofs.Common.{◌≡◌, ℕ, ◌+◌, ◌*◌, ◌<◌, ◌≤◌, ◌^◌, Bool, true, false, not, List, [], ◌∷◌, length, Option, Some, None, is_some, Result, Ok, Err, refl, sym, ap, ◌∙◌, arith}
-use Rattle.std.specs.Prelude.{nat_lt, nat_le, ◌==◌, ◌||◌, map}
-use Rattle.std.proofs.Math.Nat.{mul-le-mul_left}
+use Rattle.std.proofs.Common.{◌≡◌, ℕ, ◌+◌, ◌<◌, ◌≤◌, ◌^◌, true, false, length, refl, arith}
+use Rattle.std.specs.Prelude.{nat_le, ◌==◌}
 use Rattle.std.proofs.lemmas.Bool.Decides.{nat_tests}
-use Rattle.sat_base.specs.declared.ids.NodeId.{NodeId}
-use Rattle.sat_base.specs.declared.ids.CustomerId.{CustomerId}
-use Rattle.sat_base.specs.declared.ids.SegId.{SegId}
-use Rattle.sat_base.specs.declared.records.At.{At}
-use Rattle.sat_base.specs.declared.settings.Marks.{Marks}
-use Rattle.sat_base.specs.declared.settings.Customer.{Customer}
 use Rattle.sat_base.specs.declared.requests.Asked.TheVariants as asks
-use Rattle.sat_base.specs.declared.requests.Done.TheVariants as dones
-use Rattle.sat_base.specs.declared.requests.Kept.{Kept}
-use Rattle.rows.specs.Rows.{row_at}
 use Rattle.rows.specs.Slots.{with_row}
-use Rattle.node_registry.specs.declared.node.Node.{Node}
-use Rattle.node_registry.specs.Registry.{node_rank, node_at}
-use Rattle.segment_core.specs.Record.{SegmentRecord, segment_rank}
-use Rattle.segment_core.specs.Commit.{refusal, chosen, is_among}
-use Rattle.segment_core.specs.declared.committing.CommitErr.{CommitErr}
-use Rattle.segment_core.specs.declared.committing.CommitErr.TheVariants as causes
-use Rattle.segment_core.specs.Health.{is_healthy}
-use Rattle.segment_core.proofs.ByIndex.{filtered_by_index}
-use Rattle.segment_core.proofs.Chosen.{length_accepted, enough_accepted}
-use Rattle.settlement.specs.declared.answer.Settlable.{Settlable}
-use Rattle.settlement.specs.declared.answer.Settlable.TheVariants as may
-use Rattle.settlement.specs.declared.answer.SettleErr.{SettleErr}
-use Rattle.settlement.specs.declared.answer.SettleErr.TheVariants as no
-use Rattle.settlement.specs.Rows.{key}
-use Rattle.placement.specs.Placed.{id_of}
-use Rattle.placement.specs.Eligible.{subnet_count}
-use Rattle.placement.proofs.Picks.{Got}
+use Rattle.node_registry.specs.Registry.{node_rank}
 use Rattle.machine_calls.specs.declared.asking.Asking.{Asking}
-use Rattle.machine_calls.specs.declared.reply.Reply.{Reply}
-use Rattle.machine_calls.specs.declared.reply.Reply.TheVariants as replies
 use Rattle.machine_calls.specs.declared.refusal.Refusal.TheVariants as refusals
 use Rattle.machine_calls.specs.declared.refusal.TableName.TheVariants as names
-use Rattle.machine_step.specs.Tables.{Tables, max_len_of, is_no_size, customer_at, segment_at, if_owned, owned_at, all_changed}
-use Rattle.machine_step.specs.Outcome.{Outcome, unchanged}
-use Rattle.machine_step.specs.Places.{picks_of, pieces_from, places_of}
-use Rattle.machine_step.specs.Rules.{is_known, are_known, are_apart, counts_up, is_sound_segment, is_sound_settled, is_sound_kept}
-use Rattle.machine_step.specs.Bounds.{Each, IsSegmentWithin, IsValid}
-use Rattle.machine_step.proofs.Outcomes.{unless-P, with_record-P, if-P, of_caller-P, of_customer-P, unless_caused-P}
-use Rattle.machine_step.proofs.PickLemmas.{AreFound, got-picks, length-picks, apart-picks, length-pieces, length-ids, counts-pieces, below-pieces, by-index-pieces, known-pieces, subnets-pieces}
-use Rattle.machine_step.proofs.PieceLemmas.{length-filtered, all-filtered, apart-filtered, known-healthy, known-places, length-places, offer-counted}
-use Rattle.machine_step.proofs.GrowthLemmas.{plan-most, AreLater, plan-some, segment-most, serial-most, found-got, IsFine, sound-fine}
-use Rattle.machine_step.proofs.RowLemmas.{row_at-with_row, found_rank, length-with_row, length-replaced, each-found, and_of}
-use Rattle.machine_step.proofs.SettleLemmas.{settles-new}
-use Rattle.settlement.specs.Settle.{settlable}
-use Rattle.machine_calls.specs.declared.change.RecChange.{RecChange}
-use Rattle.machine_step.proofs.SegmentLemmas.{IsNext, segments_new, segments_set}
-use Rattle.machine_step.proofs.Steady.{MarksFit, AllFit, Becomes, all_become, grows_self, found_fine}
-use Rattle.machine_step.proofs.Steady.NodeFits.{next_node, update}
-use Rattle.machine_step.proofs.Validity.{segments_hold, steady_of}
-use Rattle.machine_step.proofs.Fits.{After, timed, still, fitting, fine_found, within_found, found_below, node_known, picks_found, owned_found, timed_fit}
+use Rattle.machine_step.specs.Tables.{Tables}
+use Rattle.machine_step.specs.Rules.{is_known}
+use Rattle.machine_step.specs.Bounds.{IsValid}
+use Rattle.machine_step.proofs.Outcomes.{unless-P, of_caller-P}
+use Rattle.machine_step.proofs.RowLemmas.{row_at-with_row, and_of}
+use Rattle.machine_step.proofs.Steady.NodeFits.{next_node}
+use Rattle.machine_step.proofs.Fits.{After, still, fitting, timed_fit}
 use Rattle.machine_step.specs.Calls.AddNode.{new_node, node_added, add_node}
 
 module _ (t : Tables) (v : IsValid t) (asking : Asking) (le : t.marks.time ≤ asking.time) (lt : asking.time < 2 ^ 36) (own : (asking.caller.0 == 0) ≡ true) where
@@ -63,7 +24,7 @@ module _ (t : Tables) (v : IsValid t) (asking : Asking) (le : t.marks.time ≤ a
       let below : length t.nodes < t.setup.caps.nodes = grind (arith, nat_tests, room) in
       let known : is_known (with_row node_rank t.nodes node) node.id ≡ true = grind (arith, nat_tests, row_at-with_row node_rank t.nodes node node.id.0) in
       fitting t v (node_added t asking addr port free).changes
-      (timed_fit t v asking.time le lt, (next_node (omega arith) below refl (omega arith), (record { sound = and_of _ _ own known; within = (tt, tt) }, tt)))
+      (timed_fit t v asking.time le lt, (next_node (omega arith) below refl (omega arith) refl, (record { sound = and_of _ _ own known; within = (tt, tt) }, tt)))
 
   pub fit_add_node : (addr port free : ℕ) → After t (add_node t asking addr port free)
   fit_add_node addr port free =

@@ -1,23 +1,18 @@
 -- A customer is told where the healthy pieces of its live segment lie.
-use Rattle.std.specs.Prelude.{◌+◌, ◌^◌, List, [], length, filter, ◌==◌, nat_lt, nat_le}
+use Rattle.std.specs.Prelude.{◌+◌, [], length, ◌==◌, nat_lt, nat_le}
 use Rattle.sat_base.specs.declared.limits.TheConstants as limits
 use Rattle.sat_base.specs.declared.ids.SegId.{SegId}
-use Rattle.sat_base.specs.declared.records.At.{At}
 use Rattle.sat_base.specs.declared.requests.Asked.TheVariants as asks
 use Rattle.sat_base.specs.declared.requests.Done.TheVariants as dones
 use Rattle.segment_core.specs.Record.{SegmentRecord}
-use Rattle.segment_core.specs.Health.{is_healthy}
 use Rattle.machine_calls.specs.declared.asking.Asking.{Asking}
 use Rattle.machine_calls.specs.declared.refusal.Refusal.TheVariants as refusals
 use Rattle.machine_calls.specs.declared.refusal.TableName.TheVariants as names
 use Rattle.machine_step.specs.Tables.{Tables, owned_at}
 use Rattle.machine_step.specs.Outcome.{Outcome, unless, with_record, of_customer, done_with}
 use Rattle.machine_step.specs.Places.{places_of}
+use Rattle.machine_step.specs.Health.{healthy_of}
 use Rattle.machine_step.specs.Calls.Begin.{piece_len_of}
-
--- the healthy pieces of a segment, by index
-abbrev pub healthy_of : Tables → SegmentRecord → List At
-healthy_of t found = filter (is_healthy t.nodes) found.pieces
 
 -- an offer of the healthy pieces
 abbrev pub offered : Tables → Asking → SegId → SegmentRecord → Outcome

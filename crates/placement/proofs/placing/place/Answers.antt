@@ -1,23 +1,18 @@
-use Rattle.std.proofs.Common.{◌≡◌, List, length, sym, subst, ◌∙◌, arith, rules}
-use Rattle.node_registry.specs.declared.node.Node.{Node}
-use Rattle.placement.specs.Eligible.{Terms, terms}
-use Rattle.placement.proofs.Picks.{AreAll, all-phases}
+use Rattle.std.proofs.Common.{◌≡◌, length, sym, ◌∙◌, arith, rules}
+use Rattle.placement.specs.Eligible.{terms}
+use Rattle.placement.proofs.Picks.{all-phases}
 use Rattle.placement.proofs.placing.place.Goals as goal
 
 pub returns-then-len-need-clause-few : goal.returns-then-len-need-clause-few
 returns-then-len-need-clause-few c chosen is =
-    let at : List Node → Terms = λ nodes. terms nodes c.args.vet c.args.taken.now c.args.piece_len c.args.words.now in
-    let Has : List Node → Type 0 = λ nodes. AreAll (at nodes) c.args.need c.in_ok-picks.picks.items in
-    let all = subst Has c.nodes.ensures.nodes (all-phases (at c.nodes.result.now) c.args.need c.args.fresh c.in_ok-picks.picks.items c.requires.fresh c.in_ok-picks.ensures) in
+    let all = all-phases (terms c.args.table.now.nodes c.args.vet c.args.taken.now c.args.piece_len c.args.words.now) c.args.need c.args.fresh c.in_ok-picks.picks.items c.requires.fresh c.in_ok-picks.ensures in
     let number : length c.in_ok-picks.picks.items ≡ c.len-then-len-need.result = omega arith in
     let same : chosen ≡ c.len-then-len-need.result = cc in
     same ∙ sym number ∙ all.few (omega arith)
 
 pub returns-clause-spread : goal.returns-clause-spread
 returns-clause-spread c =
-    let at : List Node → Terms = λ nodes. terms nodes c.args.vet c.args.taken.now c.args.piece_len c.args.words.now in
-    let Has : List Node → Type 0 = λ nodes. AreAll (at nodes) c.args.need c.in_ok-picks.picks.items in
-    let all = subst Has c.nodes.ensures.nodes (all-phases (at c.nodes.result.now) c.args.need c.args.fresh c.in_ok-picks.picks.items c.requires.fresh c.in_ok-picks.ensures) in
+    let all = all-phases (terms c.args.table.now.nodes c.args.vet c.args.taken.now c.args.piece_len c.args.words.now) c.args.need c.args.fresh c.in_ok-picks.picks.items c.requires.fresh c.in_ok-picks.ensures in
     record {
       picks = c.in_ok-picks.picks.items;
       named = search rules;
@@ -28,8 +23,6 @@ returns-clause-spread c =
 
 pub returns-clause-enough : goal.returns-clause-enough
 returns-clause-enough c =
-    let at : List Node → Terms = λ nodes. terms nodes c.args.vet c.args.taken.now c.args.piece_len c.args.words.now in
-    let Has : List Node → Type 0 = λ nodes. AreAll (at nodes) c.args.need c.in_ok-picks.picks.items in
-    let all = subst Has c.nodes.ensures.nodes (all-phases (at c.nodes.result.now) c.args.need c.args.fresh c.in_ok-picks.picks.items c.requires.fresh c.in_ok-picks.ensures) in
+    let all = all-phases (terms c.args.table.now.nodes c.args.vet c.args.taken.now c.args.piece_len c.args.words.now) c.args.need c.args.fresh c.in_ok-picks.picks.items c.requires.fresh c.in_ok-picks.ensures in
     let le = all.le in
     omega arith

@@ -16,6 +16,11 @@ returns-in_err-core-clause-bad c = λ loaded are.
     subst (λ r. IfErr r (IsNone loaded)) (sym out.1)
     (subst (IsNone loaded) (sym out.2) (none_of_parts loaded c.args.sorted are c.in_err-core.field-0.0 c.in_err-core.ensures.rules))
 
+pub returns-in_err-history-clause-bad : goal.returns-in_err-history-clause-bad
+returns-in_err-history-clause-bad c = λ loaded are.
+    let out = err_from_is_err_and c.from_residual-in_err-history.result c.from_residual-in_err-history.ensures.1 in
+    subst (λ r. IfErr r (IsNone loaded)) (sym out.1) (subst (IsNone loaded) (sym out.2) tt)
+
 pub returns-clause-ok : goal.returns-clause-ok
 returns-clause-ok c = λ loaded are.
     ready_of c.ids_stand_in_order.ensures loaded c.args.term c.args.sorted _ are refl refl

@@ -1,6 +1,7 @@
-use Rattle.std.proofs.Common.{◌≡◌, ◌<◌, ◌-◌, ◌^◌, ℕ, List, length, arith}
+use Rattle.std.proofs.Common.{◌≡◌, ◌<◌, ◌-◌, ◌^◌, ℕ, true, List, length, refl, arith}
 use Rattle.std.specs.Prelude.{min}
-use Rattle.machine_step.specs.Step.{IsFormed}
+use Rattle.machine_calls.specs.Replies.{is_request}
+use Rattle.machine_step.specs.Step.{IsAsked, IsFormed}
 use Rattle.http_edge.specs.declared.wish.Wish.{Wish}
 use Rattle.http_edge.specs.declared.wish.Wish.TheVariants as wishes
 use Rattle.sat_rounds.specs.Listening.{Enters, IfCall, Told, call_of, words_wanted}
@@ -20,8 +21,22 @@ formed (wishes.Settle node bytes) now words fits count = record { timely = fits;
 formed (wishes.SetFree node free) now words fits count = record { timely = fits; words = tt }
 formed wishes.Stop now words fits count = record { timely = omega arith; words = tt }
 
-ready : (wish : Wish) (told : Told) (heard : Listened) → Enters wish told heard → IfCall heard IsFormed
-ready wish told (listens.Call call) e = rw e.is_call (formed wish (min e.moment (2 ^ 36 - 1)) e.drawn (omega arith) e.count)
+request : (wish : Wish) (now : ℕ) (words : List ℕ) → is_request (call_of wish now words) ≡ true
+request (wishes.AddNode node addr port free) now words = refl
+request (wishes.AddCustomer number) now words = refl
+request (wishes.Begin customer number len) now words = refl
+request (wishes.Commit customer number segment indexes) now words = refl
+request (wishes.Get customer number segment) now words = refl
+request (wishes.Delete customer number segment) now words = refl
+request (wishes.Settle node bytes) now words = refl
+request (wishes.SetFree node free) now words = refl
+request wishes.Stop now words = refl
+
+asked : (wish : Wish) (now : ℕ) (words : List ℕ) → now < 2 ^ 36 → length words ≡ words_wanted wish → IsAsked (call_of wish now words)
+asked wish now words fits count = record { formed = formed wish now words fits count; asked = request wish now words }
+
+ready : (wish : Wish) (told : Told) (heard : Listened) → Enters wish told heard → IfCall heard IsAsked
+ready wish told (listens.Call call) e = rw e.is_call (asked wish (min e.moment (2 ^ 36 - 1)) e.drawn (omega arith) e.count)
 ready wish told (listens.Edge error) e = tt
 ready wish told listens.ReadFault e = tt
 ready wish told listens.WordsFault e = tt

@@ -3,7 +3,7 @@ use Rattle.sat_rounds.proofs.Legality.{sayable_entered}
 use Rattle.sat_rounds.proofs.serving.answer_call.Goals as goal
 
 pub speak-sent-requires : goal.speak-sent-requires
-speak-sent-requires g c = sayable_entered c.args.pass c.args.call c.in-Done.answered.reply c.in-Done.answered.place c.in-Done.pass c.in-Done.ensures.done
+speak-sent-requires g c = sayable_entered c.args.pass c.args.call c.in-Done.answered.reply c.in-Done.answered.place c.in-Done.pass c.requires.formed.asked c.in-Done.ensures.done
 
 pub returns-in-Done : goal.returns-in-Done
 returns-in-Done g c =

@@ -17,7 +17,7 @@ returns-clause-draft c =
     ap (used terms) (picks_after c) ∙ used-push terms c.args.self.now.picks.items c.index-nodes-place.result ∙ ap (λ (subnet : ℕ). used terms c.args.self.now.picks.items ++ subnet ∷ []) (sym c.subnet-subnet.ensures) in
     let At : List ℕ → Type 0 = λ subnets. IsDraftAt terms subnets c.strike.new.self in
     subst At (sym used_is)
-    (struck-draft terms (used terms c.args.self.now.picks.items) c.subnet-subnet.result c.args.self.now c.strike.new.self c.requires.draft c.strike.ensures.seats c.strike.ensures.vetted c.strike.ensures.unvetted)
+    (struck-draft terms (used terms c.args.self.now.picks.items) c.subnet-subnet.result c.args.self.now c.strike.new.self c.requires.draft c.strike.ensures.chains c.strike.ensures.vetted c.strike.ensures.unvetted)
 
 pub returns-clause-pick : goal.returns-clause-pick
 returns-clause-pick c =
@@ -28,5 +28,5 @@ returns-clause-pick c =
       is = picks_after c;
       next = next-flag terms c.args.class c.args.self.now.picks.items c.flags-flags.result.now (slice_index terms.words c.len.result) c.count.result c.select-place.result c.index-nodes-place.result
           (c.flags-flags.ensures ∙ flags-draft terms c.args.class (used terms c.args.self.now.picks.items) c.args.self.now c.requires.draft)
-          (ap (slice_index terms.words) number) c.count.ensures c.select-place.ensures.set c.select-place.ensures.before c.index-nodes-place.is;
+          (ap (slice_index terms.words) number) c.count.ensures c.select-place.ensures.set c.select-place.ensures.before (rw c.nodes-nodes.ensures.nodes at c.index-nodes-place.is);
     }

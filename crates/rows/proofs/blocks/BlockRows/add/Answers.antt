@@ -1,6 +1,7 @@
-use Rattle.std.proofs.Common.{◌≡◌, None, true, false, ap}
+use Rattle.std.proofs.Common.{◌≡◌, None, true, false, ap, arith}
 use Rattle.rows.specs.Rows.{row_at}
 use Rattle.rows.proofs.Rising.{rising-added}
+use Rattle.rows.proofs.Lengths.{length-added}
 use Rattle.rows.specs.Blocks.{all_rows}
 use Rattle.rows.proofs.blocks.BlockRows.add.Goals as goal
 
@@ -13,6 +14,7 @@ invariant_of-self-2 g c =
       blocks = c.add_at.ensures.blocks;
       empty = c.add_at.ensures.empty;
       ready = λ no. let never : false ≡ true = no in cc;
+      counted = rw c.add_at.ensures.rows (omega (arith, c.self.invariant.counted, length-added g.R.Ranked.rank c.args.row (all_rows c.self.inside.blocks.items)));
     }
 
 pub returns-clause-rising : goal.returns-clause-rising

@@ -1,0 +1,13 @@
+pub mod Steps
+pub mod Trace
+pub mod Openings
+pub mod Held
+pub mod Places
+pub mod AuditEnds
+pub mod PutLemmas
+pub mod MendEnds
+pub mod Superseded
+pub mod Rating
+pub mod Marks
+pub mod Leaving
+pub mod Wanted

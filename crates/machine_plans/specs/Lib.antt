@@ -1,0 +1,3 @@
+pub mod Opened
+pub mod Ends
+pub mod Outcomes

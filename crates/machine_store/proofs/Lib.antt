@@ -1,0 +1,9 @@
+pub mod OpeningLemmas
+pub mod MadeLemmas
+pub mod BrokenLemmas
+pub mod NodeLemmas
+pub mod StoreLemmas
+pub mod LostLemmas
+pub mod HealthLemmas
+pub mod WalkLemmas
+pub mod PieceLemmas

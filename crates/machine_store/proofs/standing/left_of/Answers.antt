@@ -1,0 +1,14 @@
+use Rattle.std.proofs.Common.{rules}
+use Rattle.machine_step.specs.PlanRules.{bad_lefts, missing_lefts}
+use Rattle.machine_store.proofs.OpeningLemmas.{least-append}
+use Rattle.machine_store.proofs.standing.left_of.Goals as goal
+
+pub returns-in_err-test_left-clause-rules : goal.returns-in_err-test_left-clause-rules
+returns-in_err-test_left-clause-rules c =
+    let both = least-append (bad_lefts c.args.marks.now c.args.nodes.now.nodes c.args.rows.items) (missing_lefts c.args.rows.items c.args.nodes.now.nodes) in
+    search (rules, both)
+
+pub returns-clause-rules : goal.returns-clause-rules
+returns-clause-rules c =
+    let both = least-append (bad_lefts c.args.marks.now c.args.nodes.now.nodes c.args.rows.items) (missing_lefts c.args.rows.items c.args.nodes.now.nodes) in
+    search (rules, both)

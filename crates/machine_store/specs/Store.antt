@@ -1,0 +1,173 @@
+-- The tables as they are kept, and the room that is made in them.
+use Rattle.std.specs.Prelude.{◌≡◌, ℕ, ◌+◌, ◌<◌, ◌≤◌, Bool, true, false, not, ◌&&◌, ◌||◌, List, [], ◌∷◌, length, map, filter, Option, Some, None}
+use Rattle.std.specs.List.{list_all}
+use Rattle.sat_base.specs.declared.ids.NodeId.{NodeId}
+use Rattle.sat_base.specs.declared.records.Key.TheVariants as keys
+use Rattle.sat_base.specs.declared.settings.Settings.{Settings}
+use Rattle.sat_base.specs.Ranks.{containment_rank, customer_rank, kept_rank}
+use Rattle.rows.specs.Slots.{has_slot}
+use Rattle.node_registry.specs.declared.node.Node.{Node}
+use Rattle.node_registry.specs.Left.{left_rank}
+use Rattle.node_registry.specs.Registry.{Nodes, node_at}
+use Rattle.node_registry.specs.Standing.{is_counted}
+use Rattle.segment_index.specs.declared.health.Limits.{Limits}
+use Rattle.segment_index.specs.Indexed.{Indexed, IsPlaced as IsSegmentPlaced}
+use Rattle.segment_index.specs.Segments.{is_gone}
+use Rattle.settlement.specs.declared.row.SettledRow.{SettledRow}
+use Rattle.settlement.specs.Rows.{Kept, key, row_of}
+use Rattle.machine_calls.specs.declared.change.RecChange.{RecChange}
+use Rattle.machine_calls.specs.declared.change.RecChange.TheVariants as changes
+use Rattle.machine_step.specs.Bounds.{IsValid}
+use Rattle.machine_step.specs.Tables.{Tables, setup_of}
+use Rattle.machine_store.specs.declared.store.Store.{Store}
+
+-- no call keeps tallies or statements yet
+abbrev pub tables_of : Store → Tables
+tables_of s = record {
+  setup = setup_of s.settings;
+  marks = s.marks;
+  nodes = s.nodes.nodes;
+  customers = s.customers.rows;
+  segments = s.segments.rows;
+  settled = s.settled.rows;
+  tallies = [];
+  statements = [];
+  audit = s.plans.audit;
+  recheck = s.plans.recheck;
+  repair = s.plans.repair;
+  containments = s.containments.rows;
+  kept = s.kept.rows;
+  exit = s.plans.exit;
+  left = s.left.rows;
+  tariffs = s.tariffs.rows;
+  stopped = s.stopped;
+}
+
+-- with how many healthy pieces a segment needs repair
+abbrev pub limits_of : Settings → Limits
+limits_of settings = record { k = settings.scheme.k; m = settings.scheme.m }
+
+-- the pieces on a node of the table don't count
+abbrev pub is_lost : Option Node → Bool
+is_lost None = false
+is_lost (Some node) = not (is_counted node.status)
+
+-- the nodes whose pieces don't count
+abbrev pub lost_ids : List Node → List NodeId
+lost_ids nodes = map (λ node. node.id) (filter (λ node. not (is_counted node.status)) nodes)
+
+-- the index of segments knows the nodes whose pieces don't count, or is to count them as lost
+abbrev pub KnowsLost : List Node → Indexed → Type 0
+KnowsLost nodes index = (id : NodeId) → (is_gone index.gone id || is_gone index.pending id) ≡ is_lost (node_at nodes id)
+
+-- what is kept beside the tables goes by them
+pub record GoesByTables (s : Store) : Type 0 where
+  pub keys : s.keys ≡ s.settings.secret
+  pub cap : s.settled.cap ≡ s.settings.caps.settled
+  pub limits : s.segments.limits ≡ limits_of s.settings
+  pub lost : KnowsLost s.nodes.nodes s.segments
+
+-- what is kept of every store: its tables keep every rule
+pub record KeepsRules (s : Store) : Type 0 where
+  pub valid : IsValid (tables_of s)
+  pub own : GoesByTables s
+
+-- ---- what can be placed
+
+-- a node is there, or is the next one; and its pieces don't count again
+pub record IsNodePlaceable (nodes : List Node) (node : Node) : Type 0 where
+  pub low : 1 ≤ node.id.0
+  pub high : node.id.0 ≤ length nodes + 1
+  pub next : node.id.0 ≡ length nodes + 1 → length nodes < 65536
+  pub stays : is_lost (node_at nodes node.id) ≡ true → is_counted node.status ≡ false
+
+-- a row is a new one, below the cap
+pub record IsRowPlaceable (rows : List SettledRow) (cap : ℕ) (row : SettledRow) : Type 0 where
+  pub below : length rows < cap
+  pub absent : row_of rows (key row) ≡ None
+
+-- settings, tariffs, and records of the kinds that no call makes yet can't be placed
+abbrev pub IsPlaceable : Tables → RecChange → Type 0
+IsPlaceable t (changes.Settings r) = ⊥
+IsPlaceable t (changes.Marks r) = Unit {0}
+IsPlaceable t (changes.Node r) = IsNodePlaceable t.nodes r
+IsPlaceable t (changes.Customer r) = Unit {0}
+IsPlaceable t (changes.Segment r) = Unit {0}
+IsPlaceable t (changes.SettledRow r) = IsRowPlaceable t.settled t.setup.caps.settled r
+IsPlaceable t (changes.Tally r) = ⊥
+IsPlaceable t (changes.Statement r) = ⊥
+IsPlaceable t (changes.AuditPlan r) = Unit {0}
+IsPlaceable t (changes.RecheckPlan r) = Unit {0}
+IsPlaceable t (changes.RepairPlan r) = Unit {0}
+IsPlaceable t (changes.Containment r) = Unit {0}
+IsPlaceable t (changes.Kept r) = Unit {0}
+IsPlaceable t (changes.ExitPlan r) = Unit {0}
+IsPlaceable t (changes.Left r) = Unit {0}
+IsPlaceable t (changes.Tariff r) = ⊥
+IsPlaceable t (changes.Remove one) = Unit {0}
+
+abbrev pub ArePlaceable : Tables → List RecChange → Type 0
+ArePlaceable t [] = Unit {0}
+ArePlaceable t (first ∷ rest) = IsPlaceable t first × ArePlaceable t rest
+
+-- ---- what is placed
+
+-- there is room for the node, if it is the next one
+pub record IsNodePlaced (nodes : Nodes) (node : Node) : Type 0 where
+  pub low : 1 ≤ node.id.0
+  pub high : node.id.0 ≤ length nodes.nodes + 1
+  pub next : node.id.0 ≡ length nodes.nodes + 1 → (0 < nodes.spare_nodes) × (length nodes.nodes < 65536)
+
+-- the pieces on a node that are counted as lost don't count again
+abbrev pub StaysLost : List NodeId → Node → Type 0
+StaysLost gone node = is_gone gone node.id ≡ true → is_counted node.status ≡ false
+
+pub record IsRowPlaced (settled : Kept) (row : SettledRow) : Type 0 where
+  pub room : 1 ≤ settled.spare
+  pub below : length settled.rows < settled.cap
+  pub absent : row_of settled.rows (key row) ≡ None
+
+-- there is room for the record that the change puts
+abbrev pub IsPlaced : Store → RecChange → Type 0
+IsPlaced s (changes.Settings r) = ⊥
+IsPlaced s (changes.Marks r) = Unit {0}
+IsPlaced s (changes.Node r) = IsNodePlaced s.nodes r × StaysLost s.segments.gone r
+IsPlaced s (changes.Customer r) = has_slot s.customers (customer_rank r) ≡ true
+IsPlaced s (changes.Segment r) = IsSegmentPlaced s.segments r
+IsPlaced s (changes.SettledRow r) = IsRowPlaced s.settled r
+IsPlaced s (changes.Tally r) = ⊥
+IsPlaced s (changes.Statement r) = ⊥
+IsPlaced s (changes.AuditPlan r) = Unit {0}
+IsPlaced s (changes.RecheckPlan r) = Unit {0}
+IsPlaced s (changes.RepairPlan r) = Unit {0}
+IsPlaced s (changes.Containment r) = has_slot s.containments (containment_rank r) ≡ true
+IsPlaced s (changes.Kept r) = has_slot s.kept (kept_rank r) ≡ true
+IsPlaced s (changes.ExitPlan r) = Unit {0}
+IsPlaced s (changes.Left r) = has_slot s.left (left_rank r) ≡ true
+IsPlaced s (changes.Tariff r) = ⊥
+IsPlaced s (changes.Remove one) = Unit {0}
+
+-- for each record that the changes put
+abbrev pub ArePlaced : Store → List RecChange → Type 0
+ArePlaced s [] = Unit {0}
+ArePlaced s (first ∷ rest) = IsPlaced s first × ArePlaced s rest
+
+-- there is room for the records, and for as many nodes that stop serving
+pub record HasRoom (s : Store) (changes : List RecChange) : Type 0 where
+  pub placed : ArePlaced s changes
+  pub losses : length changes ≤ s.segments.room.lost
+
+-- ---- changes that don't take each other's room
+
+-- a change leaves room for a later one: after the removal of a segment none is put, after that of a containment none, and one segment and one settled row are all
+abbrev pub spares : RecChange → RecChange → Bool
+spares (changes.Remove (keys.Segment id)) (changes.Segment segment) = false
+spares (changes.Remove (keys.Containment node)) (changes.Containment containment) = false
+spares (changes.Segment segment) (changes.Segment other) = false
+spares (changes.SettledRow row) (changes.SettledRow other) = false
+spares _ _ = true
+
+-- each leaves room for all the later ones
+abbrev pub are_orderly : List RecChange → Bool
+are_orderly [] = true
+are_orderly (first ∷ rest) = list_all (spares first) rest && are_orderly rest

@@ -1,0 +1,9 @@
+pub mod AnswerLemmas
+pub mod RatedLemmas
+pub mod RecheckLemmas
+pub mod MendLemmas
+pub mod SizeLemmas
+pub mod FreshLemmas
+pub mod BesideLemmas
+pub mod PutLemmas
+pub mod CountedLemmas

@@ -1,0 +1,3 @@
+pub mod Rated
+pub mod Mended
+pub mod Beside

@@ -1,6 +1,0 @@
-use Rattle.sat_machine.specs.Store.{tables_of}
-use Rattle.sat_machine.proofs.CaseLemmas.{len-within}
-use Rattle.sat_machine.proofs.calls.begin.begun.Goals as goal
-
-pub piece_len-requires : goal.piece_len-requires
-piece_len-requires c = len-within (tables_of c.args.store.now) c.args.len c.requires.valid c.requires.size

@@ -1,5 +1,0 @@
-use Rattle.sat_machine.proofs.PieceLemmas.{next-piece}
-use Rattle.sat_machine.proofs.places.pieces.Goals as goal
-
-pub loop-i-preserved : goal.loop-i-preserved
-loop-i-preserved c = next-piece c.args.ids.now c.loop-i.i _ c.loop-i.pieces.items _ c.in_ok-push.ensures.items c.loop-i.invariant c.loop-i-test.true

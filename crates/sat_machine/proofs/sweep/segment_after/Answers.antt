@@ -1,0 +1,15 @@
+use Rattle.std.proofs.Common.{◌≡◌, ◌∷◌, [], ◌++◌, ◌∙◌, take, subst, sym}
+use Rattle.std.proofs.lemmas.List.{take_more}
+use Rattle.std.specs.Prelude.{option_copied}
+use Rattle.machine_step.specs.Tables.{segment_at, all_changed}
+use Rattle.machine_store.specs.Store.{tables_of}
+use Rattle.sat_machine.proofs.SweepLemmas.{segment-more}
+use Rattle.sat_machine.proofs.sweep.segment_after.Goals as goal
+
+pub loop-change-preserved : goal.loop-change-preserved
+loop-change-preserved c =
+    let t = tables_of c.args.store.now in
+    let so_far = take c.loop-change.change-index c.args.changes.now in
+    let more = segment-more t so_far c.change-item.result c.args.id.0 _ c.loop-change.invariant in
+    subst (λ cs. option_copied c.segment_by-found.result ≡ segment_at (all_changed t cs).segments c.args.id.0) (sym (take_more c.args.changes.now c.loop-change.change-index c.change-item.result c.loop-change-test.true))
+    (subst (λ x. option_copied c.segment_by-found.result ≡ segment_at (all_changed t (so_far ++ x ∷ [])).segments c.args.id.0) c.change-item.is (c.segment_by-found.ensures ∙ more))

@@ -1,0 +1,5 @@
+pub mod Pairs
+pub mod Segments
+pub mod Indexed
+pub mod Keys
+pub mod Counting
