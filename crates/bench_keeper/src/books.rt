@@ -1,5 +1,5 @@
 // Books over files of settled orders.
-use crate::files::{Handle, close, commit, keeper_of, open};
+use crate::files::{Done, close_after, commit, keeper_of, open, report};
 use anyhow::{Result, bail};
 use machine_calls::Reply;
 use order_limits::Keys;
@@ -40,30 +40,43 @@ fn settled(alloc: Global, serial: u64) -> Result<Change> {
     Ok(Change::Put(row(alloc, &line)?))
 }
 
-fn fill_through<S: Alter + Drop + Send>(
-    alloc: Global,
-    conn: Connection<S>,
-    count: u64,
-) -> Result<Connection<S>> {
-    let mut keeper = keeper_of(conn)?;
+fn store(alloc: Global) -> Result<Vec<Change>> {
     let mut changes = Vec::new(alloc);
     for line in STORE {
         changes.push(Change::Put(row(alloc, line)?))?;
     }
-    commit(alloc, &mut keeper, &changes)?;
-    for batch in 0..count / FILL {
-        let mut changes = Vec::new(alloc);
-        for k in 0..FILL {
-            changes.push(settled(alloc, (batch * FILL).wrapping_add(k))?)?;
-        }
-        commit(alloc, &mut keeper, &changes)?;
+    Ok(changes)
+}
+
+fn settled_from(alloc: Global, first: u64) -> Result<Vec<Change>> {
+    let mut changes = Vec::new(alloc);
+    for k in 0..FILL {
+        changes.push(settled(alloc, first.wrapping_add(k))?)?;
     }
-    Ok(keeper.into_connection())
+    Ok(changes)
+}
+
+fn fill_keeper<K: Keeper>(alloc: Global, keeper: &mut K, count: u64) -> Result<()> {
+    commit(alloc, keeper, &store(alloc)?)?;
+    for batch in 0..count / FILL {
+        commit(alloc, keeper, &settled_from(alloc, batch * FILL)?)?;
+    }
+    Ok(())
+}
+
+fn fill_through<S: Alter + Drop>(
+    alloc: Global,
+    conn: Connection<S>,
+    count: u64,
+) -> Result<Done<S, ()>> {
+    let mut keeper = keeper_of(conn)?;
+    let filled = fill_keeper(alloc, &mut keeper, count);
+    Ok((keeper.into_connection(), filled))
 }
 
 /// Makes a store of so many settled orders, whose serials begin with 0.
 pub(crate) fn fill(rt: &HostRuntime, path: &str, count: u64) -> Result<()> {
-    close(fill_through(rt.alloc(), open(rt, path)?, count)?)
+    close_after(fill_through(rt.alloc(), open(rt, path)?, count)?)
 }
 
 fn shelf_of<K: Keeper>(alloc: Global, keeper: K) -> Result<Shelf<K>> {
@@ -73,31 +86,21 @@ fn shelf_of<K: Keeper>(alloc: Global, keeper: K) -> Result<Shelf<K>> {
     }
 }
 
-fn open_through<S: Alter + Drop + Send>(
-    rt: &HostRuntime,
-    conn: Connection<S>,
-) -> Result<Connection<S>> {
-    let keeper = keeper_of(conn)?;
+fn open_through<S: Alter + Drop>(rt: &HostRuntime, conn: Connection<S>) -> Result<Done<S, ()>> {
     let start = Instant::now(rt)?;
-    let shelf = shelf_of(rt.alloc(), keeper)?;
-    let spent = start.elapsed(rt)?.as_nanos();
-    println!(rt; "book {spent}")?;
+    let shelf = shelf_of(rt.alloc(), keeper_of(conn)?)?;
+    let told = report(rt, "book", start);
     let (keeper, _) = shelf.close();
-    Ok(keeper.into_connection())
-}
-
-fn opened(rt: &HostRuntime, path: &str) -> Result<Handle> {
-    let start = Instant::now(rt)?;
-    let conn = open(rt, path)?;
-    let spent = start.elapsed(rt)?.as_nanos();
-    println!(rt; "file {spent}")?;
-    Ok(conn)
+    Ok((keeper.into_connection(), told))
 }
 
 /// How long it takes to open a file, and a book over it.
 pub(crate) fn time_opening(rt: &HostRuntime, path: &str) -> Result<()> {
-    let conn = opened(rt, path)?;
-    close(open_through(rt, conn)?)
+    let start = Instant::now(rt)?;
+    let conn = open(rt, path)?;
+    let told = report(rt, "file", start);
+    close_after(open_through(rt, conn)?)?;
+    told
 }
 
 // Settles the order of a serial, and gives the nanoseconds of that.
@@ -123,48 +126,68 @@ fn settle<K: Keeper>(
     }
 }
 
-fn settle_all<S: Alter + Drop + Send>(
+fn settle_all<K: Keeper>(
+    rt: &HostRuntime,
+    shelf: &mut Shelf<K>,
+    first: u64,
+    count: u64,
+) -> Result<()> {
+    let keys = Keys::new([0; 32]);
+    for k in 0..count {
+        let spent = settle(rt, &keys, shelf, first.wrapping_add(k))?;
+        println!(rt; "settle {spent}")?;
+    }
+    Ok(())
+}
+
+fn settle_through<S: Alter + Drop>(
     rt: &HostRuntime,
     conn: Connection<S>,
     first: u64,
     count: u64,
-) -> Result<Connection<S>> {
-    let keys = Keys::new([0; 32]);
+) -> Result<Done<S, ()>> {
     let mut shelf = shelf_of(rt.alloc(), keeper_of(conn)?)?;
-    for k in 0..count {
-        let spent = settle(rt, &keys, &mut shelf, first.wrapping_add(k))?;
-        println!(rt; "settle {spent}")?;
-    }
+    let settled = settle_all(rt, &mut shelf, first, count);
     let (keeper, _) = shelf.close();
-    Ok(keeper.into_connection())
+    Ok((keeper.into_connection(), settled))
 }
 
 /// How long it takes to settle so many orders, from a serial on.
 pub(crate) fn time_settles(rt: &HostRuntime, path: &str, first: u64, count: u64) -> Result<()> {
-    close(settle_all(rt, open(rt, path)?, first, count)?)
+    close_after(settle_through(rt, open(rt, path)?, first, count)?)
 }
 
-fn commit_all<S: Alter + Drop + Send>(
+// The rows of one settled order, as a book commits them.
+fn rows_of_settle(alloc: Global, serial: u64) -> Result<Vec<Change>> {
+    let mut changes = Vec::new(alloc);
+    changes.push(Change::Put(row(alloc, STORE[1])?))?;
+    changes.push(settled(alloc, serial)?)?;
+    Ok(changes)
+}
+
+fn commit_all<K: Keeper>(rt: &HostRuntime, keeper: &mut K, first: u64, count: u64) -> Result<()> {
+    let alloc = rt.alloc();
+    for k in 0..count {
+        let changes = rows_of_settle(alloc, first.wrapping_add(k))?;
+        let start = Instant::now(rt)?;
+        commit(alloc, keeper, &changes)?;
+        report(rt, "commit", start)?;
+    }
+    Ok(())
+}
+
+fn commit_through<S: Alter + Drop>(
     rt: &HostRuntime,
     conn: Connection<S>,
     first: u64,
     count: u64,
-) -> Result<Connection<S>> {
-    let alloc = rt.alloc();
+) -> Result<Done<S, ()>> {
     let mut keeper = keeper_of(conn)?;
-    for k in 0..count {
-        let mut changes = Vec::new(alloc);
-        changes.push(Change::Put(row(alloc, STORE[1])?))?;
-        changes.push(settled(alloc, first.wrapping_add(k))?)?;
-        let start = Instant::now(rt)?;
-        commit(alloc, &mut keeper, &changes)?;
-        let spent = start.elapsed(rt)?.as_nanos();
-        println!(rt; "commit {spent}")?;
-    }
-    Ok(keeper.into_connection())
+    let done = commit_all(rt, &mut keeper, first, count);
+    Ok((keeper.into_connection(), done))
 }
 
 /// How long it takes to commit the rows of as many settled orders by the keeper alone.
 pub(crate) fn time_commits(rt: &HostRuntime, path: &str, first: u64, count: u64) -> Result<()> {
-    close(commit_all(rt, open(rt, path)?, first, count)?)
+    close_after(commit_through(rt, open(rt, path)?, first, count)?)
 }

@@ -8,6 +8,7 @@ use keeper_sqlite::KeeperSqlite;
 use sat_base::{Change, Committed, Keeper, Loaded, Row};
 use sqlite::{Alter, Connection, File, FileStore};
 use std::alloc::Global;
+use std::time::Instant;
 
 /// The rows of the run without words, and of a commit of it.
 const ROWS: u64 = 240;
@@ -48,8 +49,25 @@ pub(crate) fn open(rt: &HostRuntime, path: &str) -> Result<Handle> {
     Ok(Connection::open(rt, path)?)
 }
 
+/// A connection that is given back, and what came of the work by it.
+pub(crate) type Done<S, T> = (Connection<S>, Result<T>);
+
+/// Closes the file, whatever came of the work.
+pub(crate) fn close_after<T: Drop>(done: Done<FileStore<File>, T>) -> Result<T> {
+    let (conn, value) = done;
+    close(conn)?;
+    value
+}
+
 pub(crate) fn close(conn: Handle) -> Result<()> {
     conn.close()?;
+    Ok(())
+}
+
+/// Prints the nanoseconds since a start.
+pub(crate) fn report(rt: &HostRuntime, what: &str, start: Instant) -> Result<()> {
+    let spent = start.elapsed(rt)?.as_nanos();
+    println!(rt; "{what} {spent}")?;
     Ok(())
 }
 
@@ -69,36 +87,44 @@ pub(crate) fn play<K: Keeper + Send>(alloc: Global, keeper: &mut K) -> Result<()
     commit(alloc, keeper, &changes)
 }
 
-fn load_through<S: Alter + Drop>(
-    alloc: Global,
-    conn: Connection<S>,
-) -> Result<(Connection<S>, Vec<Row>)> {
+fn load_through<S: Alter + Drop>(alloc: Global, conn: Connection<S>) -> Result<Done<S, Vec<Row>>> {
     let mut keeper = keeper_of(conn)?;
-    let rows = load(alloc, &mut keeper)?;
+    let rows = load(alloc, &mut keeper);
     Ok((keeper.into_connection(), rows))
+}
+
+fn sum_played<K: Keeper + Send>(alloc: Global, keeper: &mut K) -> Result<u64> {
+    play(alloc, keeper)?;
+    Ok(sum_of(&load(alloc, keeper)?))
 }
 
 fn play_through<S: Alter + Drop + Send>(
     alloc: Global,
     conn: Connection<S>,
-) -> Result<(Connection<S>, u64)> {
+) -> Result<Done<S, u64>> {
     let mut keeper = keeper_of(conn)?;
-    play(alloc, &mut keeper)?;
-    let rows = load(alloc, &mut keeper)?;
-    Ok((keeper.into_connection(), sum_of(&rows)))
+    let sum = sum_played(alloc, &mut keeper);
+    Ok((keeper.into_connection(), sum))
 }
 
 /// The rows of a file.
 pub(crate) fn rows_of(rt: &HostRuntime, path: &str) -> Result<Vec<Row>> {
-    let (conn, rows) = load_through(rt.alloc(), open(rt, path)?)?;
-    close(conn)?;
-    Ok(rows)
+    close_after(load_through(rt.alloc(), open(rt, path)?)?)
+}
+
+fn is_refused(rt: &HostRuntime, path: &str) -> Result<bool> {
+    match Connection::open(rt, path) {
+        Ok(second) => {
+            close(second)?;
+            Ok(false)
+        }
+        Err(_) => Ok(true),
+    }
 }
 
 /// The check sum of what was committed to a file, and whether a second handle was refused meanwhile.
 pub(crate) fn write_file(rt: &HostRuntime, path: &str) -> Result<(u64, bool)> {
-    let (conn, written) = play_through(rt.alloc(), open(rt, path)?)?;
-    let refused = open(rt, path).is_err();
-    close(conn)?;
-    Ok((written, refused))
+    let done = play_through(rt.alloc(), open(rt, path)?)?;
+    let refused = is_refused(rt, path);
+    Ok((close_after(done)?, refused?))
 }

@@ -1,5 +1,5 @@
 // Rows committed until the disk is full.
-use crate::files::{close, keeper_of, open};
+use crate::files::{Done, close, keeper_of, open};
 use crate::made::puts;
 use anyhow::{Result, bail};
 use sat_base::{Committed, Keeper, Loaded};
@@ -36,23 +36,25 @@ fn print_loaded<K: Keeper>(rt: &HostRuntime, keeper: &mut K) -> Result<()> {
     Ok(())
 }
 
-fn fill_through<S: Alter + Drop + Send>(
-    rt: &HostRuntime,
-    conn: Connection<S>,
-) -> Result<Connection<S>> {
-    let mut keeper = keeper_of(conn)?;
-    let acknowledged = commit_until_fault(rt.alloc(), &mut keeper)?.wrapping_mul(BATCH);
+fn fill_keeper<K: Keeper>(rt: &HostRuntime, keeper: &mut K) -> Result<()> {
+    let acknowledged = commit_until_fault(rt.alloc(), keeper)?.wrapping_mul(BATCH);
     println!(rt; "acknowledged {acknowledged}")?;
     let faults = keeper.count();
     println!(rt; "faults {faults}")?;
-    print_loaded(rt, &mut keeper)?;
-    Ok(keeper.into_connection())
+    print_loaded(rt, keeper)
+}
+
+fn fill_through<S: Alter + Drop>(rt: &HostRuntime, conn: Connection<S>) -> Result<Done<S, ()>> {
+    let mut keeper = keeper_of(conn)?;
+    let filled = fill_keeper(rt, &mut keeper);
+    Ok((keeper.into_connection(), filled))
 }
 
 /// Fills the disk of a file, and closes the file if that is possible.
 pub(crate) fn fill(rt: &HostRuntime, path: &str) -> Result<()> {
-    let conn = fill_through(rt, open(rt, path)?)?;
+    let (conn, filled) = fill_through(rt, open(rt, path)?)?;
     let closed = close(conn).is_ok();
+    filled?;
     println!(rt; "closed {closed}")?;
     Ok(())
 }

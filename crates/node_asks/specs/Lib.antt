@@ -4,3 +4,4 @@ pub mod Hearing
 pub mod Remaking
 pub mod Spreading
 pub mod Ending
+pub mod Telling

@@ -1,3 +1,4 @@
+pub mod Among
 pub mod Drawing
 pub mod Legality
 pub mod Ending

@@ -27,7 +27,7 @@ mod told;
 
 pub use lanes::{LaneEnd, LaneWorked, Post, lane_worker};
 pub use laws::good_requests_are_answered;
-pub use listening::{Listened, listen};
+pub use listening::{Listened, draw, listen};
 pub use rounds::{Round, RoundEnd, RoundKit, RoundsEnd, RoundsWorked};
 pub use serving::session;
 pub use speaking::{Said, speak};

@@ -89,8 +89,8 @@ fn words_of(wish: &Wish) -> usize
     }
 }
 
-// Draws as many words as there is room for. It tells whether all came.
-fn draw<W: Words>(words: &mut W, room: &mut [u64]) -> bool
+/// Draws as many words as there is room for. It tells whether all came.
+pub fn draw<W: Words>(words: &mut W, room: &mut [u64]) -> bool
     ensures all { IsTrue result → W.left words.old ≡ with_front room.new (W.left words.new) }
     ensures some { result ≡ false → (drawn : List ℕ) × (length drawn < length room.old) × (W.left words.old ≡ with_front drawn (W.left words.new)) }
     ensures size { length room.new ≡ length room.old }

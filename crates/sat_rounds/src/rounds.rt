@@ -65,6 +65,9 @@ pub trait RoundKit: Drop {
     /// What is told of the kit.
     ghost view: { Self → KitView Self.Nodes };
 
+    /// What a kit is to be for a book that was opened so: where it goes by the store's keys, say, that they are the store's.
+    ghost fits: { Option Opening → Self → Type 0 };
+
     /// What is told of a round over a history in which its entries stand, beside its tick, its moments and its words. It
     /// holds over each longer history too.
     ghost tells: { Option Opening → KitView Self.Nodes → Round → List E → List E → KitView Self.Nodes → Type 0 };
@@ -80,5 +83,6 @@ pub trait RoundKit: Drop {
     ) -> RoundsWorked<K, Self>
         requires desk { pass.desk ≡ desk.now }
         requires base { IsSome pass.base }
+        requires fits { fits (opening_of pass.base) self }
         ensures { RoundsRan (tells (opening_of pass.base)) (view self) pass result.rounds.items result.end (view result.kit) result.pass };
 }

@@ -14,7 +14,7 @@ use Rattle.sat_rounds.specs.declared.told.Session.{Session}
 use Rattle.sat_rounds.proofs.Ending.{words_counted}
 use Rattle.sat_term.specs.Crew.{LaneHolds, LaneRow}
 use Rattle.sat_term.specs.Term.{LaneCause, LaneClauses, LinksGrew, count_of, ends_by_words, is_failed}
-use Rattle.sat_term.proofs.Among.{draws_nothing, draws_then}
+use Rattle.sat_rounds.proofs.Among.{draws_nothing, draws_then}
 
 pub one_more : (a b c n : ℕ) → b ≡ raised a → (c < 2 ^ 64 - 1 → c ≡ b + n) → c < 2 ^ 64 - 1 → c ≡ a + (n + 1)
 one_more a b c n up rest low = let r : c ≡ b + n = rest low in omega arith

@@ -2,7 +2,6 @@ pub mod Crossing
 pub mod Rows
 pub mod Holding
 pub mod Gathering
-pub mod Among
 pub mod LaneLaws
 pub mod RoundLaws
 pub mod Whole

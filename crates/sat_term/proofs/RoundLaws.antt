@@ -13,7 +13,7 @@ use Rattle.sat_rounds.specs.declared.rounds.RoundsEnd.{RoundsEnd}
 use Rattle.sat_rounds.specs.declared.rounds.RoundsEnd.TheVariants as causes
 use Rattle.sat_term.specs.Crew.{KitRow, RoundHolds, Telling}
 use Rattle.sat_term.specs.Term.{AreTold, RoundCause, RoundClauses}
-use Rattle.sat_term.proofs.Among.{draws_nothing, draws_then}
+use Rattle.sat_rounds.proofs.Among.{draws_nothing, draws_then}
 use Rattle.sat_term.proofs.LaneLaws.{one_more}
 
 module _ {N : Type 0} (Tells : Telling N) (h : List E) where

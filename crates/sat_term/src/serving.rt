@@ -68,6 +68,9 @@ pub fn serve_term<
     requires few { length crew.posts.items ≤ 16 }
     requires sheet { IsBlank (length crew.posts.items) sheet }
     requires room { length crew.posts.items + 3 ≤ vec_capacity sheet.numbers }
+    requires audit_fits { A.fits (Some book.opening) crew.kits.audit }
+    requires repair_fits { B.fits (Some book.opening) crew.kits.repair }
+    requires tally_fits { C.fits (Some book.opening) crew.kits.tally }
     ensures clauses { IfOk result (λ r. TermClauses (A.tells (Some book.opening)) (B.tells (Some book.opening)) (C.tells (Some book.opening))
         keys.now term book.opening r.term r.ends
         (map (post_view L.about T.coming W.left W.faults) crew.posts.items) (map (post_view L.about T.coming W.left W.faults) r.crew.posts.items)

@@ -25,16 +25,26 @@ struct Parts<K> {
     tally: BookPass<K>,
 }
 
-// Cuts a pass into those of the workers of rounds and one for the lanes, whose numbers come first.
-fn part<K: Keeper>(desk: &Desk<Book<K>>, pass: BookPass<K>) -> Parts<K>
+// Cuts a pass into those of the workers of rounds and one for the lanes, whose numbers come first. The kits fit them too.
+fn part<K: Keeper, A: RoundKit, B: RoundKit, C: RoundKit>(
+    desk: &Desk<Book<K>>,
+    pass: BookPass<K>,
+    kits: &Kits<A, B, C>,
+) -> Parts<K>
     requires desk { pass.desk ≡ desk.now }
     requires base { IsSome pass.base }
     requires spare { 2 ^ 19 ≤ pass.spare }
+    requires audit_fits { A.fits (opening_of pass.base) kits.now.audit }
+    requires repair_fits { B.fits (opening_of pass.base) kits.now.repair }
+    requires tally_fits { C.fits (opening_of pass.base) kits.now.tally }
     ensures lanes { (result.lanes.desk ≡ desk.now) × IsSome result.lanes.base }
     ensures audit { (result.audit.desk ≡ desk.now) × IsSome result.audit.base }
     ensures repair { (result.repair.desk ≡ desk.now) × IsSome result.repair.base }
     ensures tally { (result.tally.desk ≡ desk.now) × IsSome result.tally.base }
     ensures bases { (result.audit.base ≡ pass.base) × (result.repair.base ≡ pass.base) × (result.tally.base ≡ pass.base) }
+    ensures audit_fits { A.fits (opening_of result.audit.base) kits.now.audit }
+    ensures repair_fits { B.fits (opening_of result.repair.base) kits.now.repair }
+    ensures tally_fits { C.fits (opening_of result.tally.base) kits.now.tally }
     ensures spare { 2 ^ 16 ≤ result.lanes.spare }
     ensures parted { Parted pass result.lanes result.audit result.repair result.tally }
 {
@@ -105,6 +115,9 @@ pub(crate) fn work_all<
     requires few { length crew.posts.items ≤ 16 }
     requires sheet { IsBlank (length crew.posts.items) sheet }
     requires room { length crew.posts.items + 3 ≤ vec_capacity sheet.numbers }
+    requires audit_fits { A.fits (opening_of pass.base) crew.kits.audit }
+    requires repair_fits { B.fits (opening_of pass.base) crew.kits.repair }
+    requires tally_fits { C.fits (opening_of pass.base) crew.kits.tally }
     ensures { AllDone (A.tells (opening_of pass.base)) (B.tells (opening_of pass.base)) (C.tells (opening_of pass.base)) keys.now desk.now.term pass
         (map (post_view L.about T.coming W.left W.faults) crew.posts.items) (kits_view A.view B.view C.view crew.kits) result.pass
         (map (post_view L.about T.coming W.left W.faults) result.crew.posts.items) (kits_view A.view B.view C.view result.crew.kits) result.sheet (record {
@@ -122,7 +135,7 @@ pub(crate) fn work_all<
         audit: for_audit,
         repair: for_repair,
         tally: for_tally,
-    } = part(desk, pass);
+    } = part(desk, pass, &kits);
     let tally_number = for_tally.number();
     let repair_number = for_repair.number();
     let audit_number = for_audit.number();
@@ -134,7 +147,8 @@ pub(crate) fn work_all<
             ensures done { LanesDone keys.entry.now desk.entry.now.term pass (map (post_view L.about T.coming W.left W.faults) posts.items) result.pass (map (post_view L.about T.coming W.left W.faults) result.posts.items) result.sheet }
         { work_posts(rt, alloc, desk, pass, keys, posts, gate, sheet) },
         move || -> KitsWorked<K, A, B, C>
-            requires { ((for_audit.desk ≡ desk.now) × IsSome for_audit.base) × ((for_repair.desk ≡ desk.now) × IsSome for_repair.base) × ((for_tally.desk ≡ desk.now) × IsSome for_tally.base) }
+            requires { ((for_audit.desk ≡ desk.now) × IsSome for_audit.base) × ((for_repair.desk ≡ desk.now) × IsSome for_repair.base) × ((for_tally.desk ≡ desk.now) × IsSome for_tally.base)
+                × A.fits (opening_of for_audit.base) kits.audit × B.fits (opening_of for_repair.base) kits.repair × C.fits (opening_of for_tally.base) kits.tally }
             ensures audit { RoundsRan (A.tells (opening_of for_audit.base)) (A.view kits.audit) for_audit result.audit.rounds.items result.audit.end (A.view result.audit.kit) result.audit.pass }
             ensures repair { RoundsRan (B.tells (opening_of for_repair.base)) (B.view kits.repair) for_repair result.repair.rounds.items result.repair.end (B.view result.repair.kit) result.repair.pass }
             ensures tally { RoundsRan (C.tells (opening_of for_tally.base)) (C.view kits.tally) for_tally result.tally.rounds.items result.tally.end (C.view result.tally.kit) result.tally.pass }

@@ -23,6 +23,8 @@ impl RoundKit for NoRounds {
       ticks = record { given = 0; over = true };
     } };
 
+    ghost fits = { λ _ _. Unit {0} };
+
     // No round is made, so nothing is told of one.
     ghost tells = { λ _ _ _ _ _ _. ⊥ };
 

@@ -53,9 +53,9 @@ pub fn ask_over<K: Keeper>(
         Ok(shelf) => shelf,
         Err(NotOpened { keeper, .. }) => return Ok((keeper, Asked::Unopened)),
     };
-    let asked = ask(alloc, &mut shelf, keys, calls)?;
+    let asked = ask(alloc, &mut shelf, keys, calls);
     let (keeper, _) = shelf.close();
-    Ok((keeper, asked))
+    Ok((keeper, asked?))
 }
 
 /// The same over a connection, unless a keeper is refused.

@@ -1,0 +1,4 @@
+pub mod Pieces
+pub mod Audits
+pub mod Repairs
+pub mod Moves

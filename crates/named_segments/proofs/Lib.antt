@@ -1,0 +1,9 @@
+pub mod Stripes
+pub mod Counted
+pub mod Blames
+pub mod Audited
+pub mod Shares
+pub mod Members
+pub mod Windows
+pub mod Keeping
+pub mod Repaired

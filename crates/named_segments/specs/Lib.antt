@@ -1,0 +1,3 @@
+pub mod Named
+pub mod Audits
+pub mod Repairs

@@ -1,0 +1,13 @@
+pub mod Answering
+pub mod AskingLemmas
+pub mod EnteringLemmas
+pub mod Opening
+pub mod Making
+pub mod Taken
+pub mod Parting
+pub mod Counting
+pub mod Holding
+pub mod Rounding
+pub mod KitLemmas
+pub mod Rechecked
+pub mod Keeping

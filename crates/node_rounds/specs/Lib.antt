@@ -1,0 +1,12 @@
+pub mod Upkeep
+pub mod Drawing
+pub mod Asked
+pub mod Askable
+pub mod Calls
+pub mod Clauses
+pub mod Held
+pub mod Parts
+pub mod Works
+pub mod Entering
+pub mod Kits
+pub mod Keeps
