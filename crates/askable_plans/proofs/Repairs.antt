@@ -34,7 +34,7 @@ use Rattle.askable_plans.proofs.Pieces.{below_at, pieces_are, rises_by, sized, s
 module _ (t : Tables) (v : IsValid t) (scheme : Scheme) (own : IsSchemeOf t.setup scheme) (time : ℕ) (le : t.marks.time ≤ time) (lt : time < 2 ^ 36) where
   -- the open plan holds
   holds : (words : List ℕ) (plan : RepairPlan) → plan_repair t time words ≡ repair_planned t time plan → RepairHolds t.marks.segment t.setup (drawn t.marks time) t.nodes t.segments plan
-  holds words plan is = (subst (After t) is (fit_plan_repair t v time le lt words)).0.steady.repair
+  holds words plan is = (subst (After t) is (fit_plan_repair t v time le lt words)).becomes.steady.repair
 
   targets_below : (plan : RepairPlan) (segment : SegmentRecord) → segment_at t.segments plan.segment.0 ≡ Some segment → segment.version ≡ plan.version
       → is_sound_repair t.setup (drawn t.marks time) t.nodes t.segments plan ≡ true → are_below t.setup.n plan.targets ≡ true

@@ -1,4 +1,5 @@
 // Calls of each kind, each timed by itself.
+ghost use Rattle.std.specs.Prelude.{ℕ, ◌<◌, slice_index_or};
 ghost use Rattle.machine_step.specs.Step.{IsWellFormed};
 
 use crate::made::{AMOUNT, LEN, Size, customer_of, node_of, now, serial_at};
@@ -110,6 +111,13 @@ pub(crate) fn timed(clock: &impl Clock, trial: &mut Trial, call: Call) -> Result
     })
 }
 
+// A slice of bytes is one.
+fn are_bytes(bytes: &[u8])
+    ensures { (i : ℕ) → slice_index_or bytes.now i 0 < 256 }
+{
+    let _ = bytes;
+}
+
 fn settle(
     clock: &impl Clock,
     alloc: Global,
@@ -118,11 +126,12 @@ fn settle(
     node: NodeId,
     serial: u64,
 ) -> Result<Answer> {
-    let bytes = Vec::from_slice(alloc, &order(keys, serial, node))?;
+    let bytes = Items::of(Vec::from_slice(alloc, &order(keys, serial, node))?);
+    are_bytes(bytes.as_slice());
     let call = Call::Settle {
         now: now(),
         node,
-        bytes: Items::of(bytes),
+        bytes,
     };
     timed(clock, trial, call)
 }

@@ -45,6 +45,15 @@ fn done(sum: u64, done: &Done) -> u64 {
     }
 }
 
+// Amounts, which are below 2^64 here.
+fn amounts(sum: u64, amounts: [u128; 6]) -> u64 {
+    let mut sum = sum;
+    for amount in amounts {
+        sum = mix(sum, u64::try_from(amount).unwrap_or(u64::MAX));
+    }
+    sum
+}
+
 /// The sum with one more reply.
 pub(crate) fn reply(sum: u64, reply: &Reply) -> u64 {
     match reply {
@@ -68,6 +77,28 @@ pub(crate) fn reply(sum: u64, reply: &Reply) -> u64 {
             ..
         } => { place(all(mix(sum, 11), sources.as_slice()), target) }
         Reply::RecheckEnded { tries, .. } => mix(mix(sum, 12), u64::from(*tries)),
+        Reply::Tallied { hour, nodes } => mix(mix(mix(sum, 14), hour.0), u64::from(*nodes)),
+        Reply::Closed { month, fresh } => mix(
+            mix(mix(sum, 15), u64::from(month.0)),
+            u64::from(*fresh),
+        ),
+        Reply::Statement(row) => {
+            let sum = mix(
+                mix(mix(sum, 16), u64::from(row.node.0)),
+                u64::from(row.month.0),
+            );
+            amounts(
+                sum,
+                [
+                    row.sums.get,
+                    row.sums.byte_hours,
+                    row.parts.gross,
+                    row.held,
+                    row.paid,
+                    row.pot,
+                ],
+            )
+        }
         _ => mix(sum, 13),
     }
 }
@@ -83,5 +114,8 @@ pub(crate) fn is_accepted(reply: &Reply) -> bool {
             | Reply::RepairPlanned { .. }
             | Reply::ExitPlanned { .. }
             | Reply::RecheckEnded { .. }
+            | Reply::Tallied { .. }
+            | Reply::Closed { .. }
+            | Reply::Statement(_)
     )
 }

@@ -30,10 +30,11 @@ const PIECES: u8 = 80;
 // One segment in a hundred has so few pieces that it needs repair.
 const FEW: u8 = 30;
 
-// January 2026, and a moment in it.
-const MONTH: u32 = 24312;
+/// January 2026.
+pub(crate) const MONTH: u32 = 24312;
 
-const NOW: u64 = 1_768_000_000;
+/// A moment in it.
+pub(crate) const NOW: u64 = 1_768_000_000;
 
 /// How much a store holds, and how many calls of each kind it is asked.
 #[derive(Clone, Copy)]

@@ -1,7 +1,7 @@
 // A store that is asked calls of every kind.
-use crate::calls::{Kind, ask, read_alone};
+use crate::calls::{Answer, Kind, ask, read_alone};
 use crate::made::{SECRET, Size, parts};
-use crate::{fold, upkeep};
+use crate::{fold, months, upkeep};
 use anyhow::{Result, bail};
 use audit_core::Checked;
 use order_limits::Keys;
@@ -31,6 +31,27 @@ pub(crate) struct Outcome {
     times: Vec<u128>,
 }
 
+impl Outcome {
+    /// Of no calls.
+    pub(crate) fn new(alloc: Global) -> Self {
+        Outcome {
+            accepted: 0,
+            sum: fold::EMPTY,
+            times: Vec::new(alloc),
+        }
+    }
+
+    /// With one more call.
+    pub(crate) fn add(&mut self, answer: Answer) -> Result<()> {
+        self.sum = fold::mix(self.sum, answer.sum);
+        if answer.accepted {
+            self.accepted = self.accepted.saturating_add(1);
+        }
+        self.times.push(answer.spent)?;
+        Ok(())
+    }
+}
+
 // The machine of a store, and how many nanoseconds its making took.
 fn open(clock: &impl Clock, alloc: Global, size: Size) -> Result<(Trial, u128)> {
     let parts = parts(alloc, size)?;
@@ -49,18 +70,9 @@ fn outcome_of(
     size: Size,
     kind: Kind,
 ) -> Result<Outcome> {
-    let mut outcome = Outcome {
-        accepted: 0,
-        sum: fold::EMPTY,
-        times: Vec::new(alloc),
-    };
+    let mut outcome = Outcome::new(alloc);
     for number in 0..size.calls {
-        let answer = ask(clock, alloc, keys, trial, size, kind, number)?;
-        outcome.sum = fold::mix(outcome.sum, answer.sum);
-        if answer.accepted {
-            outcome.accepted = outcome.accepted.saturating_add(1);
-        }
-        outcome.times.push(answer.spent)?;
+        outcome.add(ask(clock, alloc, keys, trial, size, kind, number)?)?;
     }
     Ok(outcome)
 }
@@ -96,33 +108,19 @@ fn test_size(size: Size) -> Result<()> {
     Ok(())
 }
 
-fn check_kind(
-    rt: &HostRuntime,
-    keys: &Keys,
-    trial: &mut Trial,
-    size: Size,
-    kind: Kind,
-) -> Result<()> {
-    let outcome = outcome_of(rt, rt.alloc(), keys, trial, size, kind)?;
-    let name = kind.name();
+fn print_sum(rt: &HostRuntime, what: &str, outcome: &Outcome) -> Result<()> {
     let accepted = outcome.accepted;
     let sum = outcome.sum;
-    println!(rt; "{name} accepted {accepted} sum {sum}")?;
+    println!(rt; "{what} accepted {accepted} sum {sum}")?;
     Ok(())
 }
 
-fn time_kind(
-    rt: &HostRuntime,
-    keys: &Keys,
-    trial: &mut Trial,
-    size: Size,
-    kind: Kind,
-) -> Result<()> {
-    let outcome = outcome_of(rt, rt.alloc(), keys, trial, size, kind)?;
-    if outcome.accepted != size.calls {
+// The times of calls that were all accepted.
+fn print_accepted(rt: &HostRuntime, what: &str, outcome: Outcome) -> Result<()> {
+    if outcome.accepted != outcome.times.len() as u64 {
         bail!("a call isn't accepted");
     }
-    print_times(rt, kind.name(), outcome.times)
+    print_times(rt, what, outcome.times)
 }
 
 // A node fails its recheck and is disqualified. The next call counts its pieces as lost.
@@ -139,9 +137,13 @@ pub(crate) fn check(rt: &HostRuntime, size: Size) -> Result<()> {
     let keys = Keys::new(SECRET);
     let (mut trial, _) = open(rt, rt.alloc(), size)?;
     for kind in KINDS {
-        check_kind(rt, &keys, &mut trial, size, kind)?;
+        let outcome = outcome_of(rt, rt.alloc(), &keys, &mut trial, size, kind)?;
+        print_sum(rt, kind.name(), &outcome)?;
     }
-    Ok(())
+    let months = months::pass(rt, rt.alloc(), &mut trial, size)?;
+    print_sum(rt, "tally_hour", &months.tallies)?;
+    print_sum(rt, "close_month", &months.closes)?;
+    print_sum(rt, "statement", &months.statements)
 }
 
 /// Prints in nanoseconds how long the opening takes, the reading of an order alone, and a call of each kind.
@@ -152,7 +154,12 @@ pub(crate) fn time(rt: &HostRuntime, size: Size) -> Result<()> {
     println!(rt; "open {spent}")?;
     time_reading(rt, &keys, size)?;
     for kind in KINDS {
-        time_kind(rt, &keys, &mut trial, size, kind)?;
+        let outcome = outcome_of(rt, rt.alloc(), &keys, &mut trial, size, kind)?;
+        print_accepted(rt, kind.name(), outcome)?;
     }
-    time_loss(rt, &mut trial)
+    time_loss(rt, &mut trial)?;
+    let months = months::pass(rt, rt.alloc(), &mut trial, size)?;
+    print_accepted(rt, "tally_hour", months.tallies)?;
+    print_accepted(rt, "close_month", months.closes)?;
+    print_accepted(rt, "statement", months.statements)
 }

@@ -4,13 +4,16 @@ use Rattle.sat_base.specs.declared.limits.TheConstants as limits
 use Rattle.sat_base.specs.declared.rates.Rates.{Rates}
 use Rattle.sat_base.specs.declared.scheme.Scheme.{Scheme}
 use Rattle.sat_base.specs.declared.settings.Caps.{Caps}
+use Rattle.sat_base.specs.Limits.{IsMonthWithin}
 use Rattle.sat_base.specs.Scheme.{first_broken}
-use Rattle.sat_base.specs.Text.{same}
 use Rattle.command_line.specs.declared.bounds.TheConstants as bounds
 use Rattle.command_line.specs.declared.command.Command.{Command}
 use Rattle.command_line.specs.declared.command.Command.TheVariants as commands
+use Rattle.command_line.specs.declared.names.Name.{Name}
+use Rattle.command_line.specs.declared.names.Name.TheVariants as names
+use Rattle.command_line.specs.Names.{name_in}
 use Rattle.command_line.specs.Pairs.{is_form, value_of}
-use Rattle.command_line.specs.Values.{number_or, number_within, secret_of, secret_or_none}
+use Rattle.command_line.specs.Values.{month_of, number_or, number_within, secret_of, secret_or_none}
 
 -- ---- what is asked for, in plain numbers
 
@@ -37,11 +40,17 @@ pub record Server : Type 0 where
   pub term : ℕ
   pub tick : ℕ
 
+pub record MonthSheet : Type 0 where
+  pub store : List ℕ
+  pub month : ℕ
+
 pub data Asked : Type 0 where
   settle : (secret : List ℕ) (cap : ℕ) → Asked
   judge : (k share : ℕ) → Asked
   init : NewStore → Asked
   serve : Server → Asked
+  sheet : MonthSheet → Asked
+  drill : (start calls : ℕ) → Asked
 
 abbrev pub numbers_of : Scheme → Numbers
 numbers_of scheme = record { k = scheme.k; m = scheme.m; o = scheme.o; n = scheme.n; share = scheme.share }
@@ -66,6 +75,8 @@ asked (commands.Serve store port lanes term tick) = serve (record {
   term = term;
   tick = tick;
 })
+asked (commands.Sheet store month) = sheet (record { store = store; month = month.0 })
+asked (commands.Drill start calls) = drill start calls
 
 -- the numbers of a command are within their bounds
 abbrev pub IsWithin : Command → Type 0
@@ -73,6 +84,8 @@ IsWithin (commands.Judge k share) = (1 ≤ k) × (k ≤ bounds.JUDGED) × (1 ≤
 IsWithin (commands.Serve store port lanes term tick) =
     ((1 ≤ port) × (port ≤ bounds.PORT)) × ((1 ≤ lanes) × (lanes ≤ bounds.LANES)) × ((1 ≤ term) × (term ≤ bounds.TERM))
     × ((1 ≤ tick) × (tick ≤ bounds.TICK))
+IsWithin (commands.Sheet store month) = IsMonthWithin month.0
+IsWithin (commands.Drill start calls) = (1 ≤ calls) × (calls ≤ bounds.CALLS)
 IsWithin _ = Unit {0}
 
 -- ---- settle
@@ -249,19 +262,61 @@ serve_of words =
     (number_or bounds.USUAL_TICK 1 bounds.TICK (value_of (codes "--tick") words))
     else None
 
+-- ---- sheet
+
+abbrev pub sheet_names : List (List ℕ)
+sheet_names = codes "--store" ∷ codes "--month" ∷ []
+
+abbrev pub sheet_with : Option (List ℕ) → Option ℕ → Option MonthSheet
+sheet_with None month = None
+sheet_with (Some store) None = None
+sheet_with (Some store) (Some month) = Some (record { store = store; month = month })
+
+-- what the words behind `sheet` ask for
+unfoldable pub sheet_of : List (List ℕ) → Option MonthSheet
+sheet_of words =
+    if is_form sheet_names words
+    then sheet_with (value_of (codes "--store") words) (month_of (value_of (codes "--month") words))
+    else None
+
+-- ---- drill
+
+abbrev pub drill_names : List (List ℕ)
+drill_names = codes "--start" ∷ codes "--calls" ∷ []
+
+abbrev pub drill_with : Option ℕ → Option ℕ → Option Asked
+drill_with None calls = None
+drill_with (Some start) None = None
+drill_with (Some start) (Some calls) = Some (drill start calls)
+
+-- what the words behind `drill` ask for
+unfoldable pub drill_of : List (List ℕ) → Option Asked
+drill_of words =
+    if is_form drill_names words
+    then drill_with (number_within 0 18446744073709551615 (value_of (codes "--start") words))
+    (number_within 1 bounds.CALLS (value_of (codes "--calls") words))
+    else None
+
 -- ---- all
+
+-- what the words behind the name of a command ask for
+abbrev pub named_of : Option Name → List (List ℕ) → Option Asked
+named_of None words = None
+named_of (Some names.Settle) words = settle_of words
+named_of (Some names.Judge) words = judge_of words
+named_of (Some names.Init) words = option_map init (init_of words)
+named_of (Some names.Serve) words = option_map serve (serve_of words)
+named_of (Some names.Sheet) words = option_map sheet (sheet_of words)
+named_of (Some names.Drill) words = drill_of words
 
 -- what the words ask for, if they are a command
 unfoldable pub command_of : List (List ℕ) → Option Asked
 command_of [] = None
-command_of (name ∷ words) =
-    if same name (codes "settle") then settle_of words
-    else (if same name (codes "judge") then judge_of words
-    else (if same name (codes "init") then option_map init (init_of words)
-    else (if same name (codes "serve") then option_map serve (serve_of words) else None)))
+command_of (name ∷ words) = named_of (name_in name) words
 
 -- a store is named
 abbrev pub names_store : Option Asked → Bool
 names_store (Some (init store)) = true
 names_store (Some (serve server)) = true
+names_store (Some (sheet month)) = true
 names_store _ = false

@@ -1,4 +1,5 @@
 pub mod Pairs
 pub mod Values
+pub mod Names
 pub mod Command
 pub mod Words

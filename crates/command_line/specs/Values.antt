@@ -2,6 +2,7 @@
 use Rattle.std.specs.Prelude.{ℕ, List, Option, Some, None, Result, Ok, Err, nat_le, if◌then◌else◌}
 use Rattle.hex.specs.Hex.{decode_sized}
 use Rattle.sat_base.specs.Text.{number_up_to}
+use Rattle.month_text.specs.MonthText.{month_in}
 
 abbrev pub result_ok : {A E : Type 0} → Result A E → Option A
 result_ok (Ok x) = Some x
@@ -20,6 +21,11 @@ given (Some secret) = Some (Some secret)
 abbrev pub secret_or_none : Option (List ℕ) → Option (Option (List ℕ))
 secret_or_none None = Some None
 secret_or_none (Some text) = given (secret_of (Some text))
+
+-- a month as a text
+abbrev pub month_of : Option (List ℕ) → Option ℕ
+month_of None = None
+month_of (Some text) = month_in text
 
 abbrev pub at_least : ℕ → Option ℕ → Option ℕ
 at_least low None = None

@@ -3,6 +3,7 @@ use Rattle.std.specs.Prelude.{◌≤◌}
 use Rattle.command_line.specs.declared.init.InitWords.{InitWords}
 use Rattle.command_line.specs.declared.init.Choices.{Choices}
 use Rattle.command_line.specs.declared.serve.ServeWords.{ServeWords}
+use Rattle.command_line.specs.declared.sheet.SheetWords.{SheetWords}
 use Rattle.command_line.specs.Command as said
 use Rattle.command_line.specs.declared.bounds.TheConstants as bounds
 
@@ -28,6 +29,9 @@ serve_said words = record {
   term = words.term;
   tick = words.tick;
 }
+
+abbrev pub sheet_said : SheetWords → said.MonthSheet
+sheet_said words = record { store = words.store.now; month = words.month.0 }
 
 -- the numbers of a server are within their bounds
 abbrev pub AreWithin : ServeWords → Type 0

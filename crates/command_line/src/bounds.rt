@@ -12,6 +12,9 @@ pub const LANES: u16 = 16;
 /// The entries of a term.
 pub const TERM: u64 = 65_536;
 
+/// The calls of a drill.
+pub const CALLS: u64 = 20_000;
+
 /// The seconds between two ticks: a day.
 pub const TICK: u32 = 86_400;
 

@@ -1,15 +1,18 @@
 // The commands.
 ghost use Rattle.std.specs.Prelude.{◌≡◌, ◌↔◌, ◌≤◌, true, None, Some, Err, IfOk, IfSome, MatchResult, length, drop, option_map};
-ghost use Rattle.command_line.specs.Command.{IsWithin, asked, command_of, init_of, judge_of, names_store, serve_of, settle_of};
-ghost use Rattle.command_line.specs.Command.Asked.{init, serve};
-ghost use Rattle.command_line.specs.Words.{AreWithin, init_said, serve_said};
+ghost use Rattle.command_line.specs.Command.{IsWithin, asked, command_of, drill_of, init_of, judge_of, named_of, names_store, serve_of, settle_of, sheet_of};
+ghost use Rattle.command_line.specs.Command.Asked.{init, serve, sheet};
+ghost use Rattle.command_line.specs.Words.{AreWithin, init_said, serve_said, sheet_said};
+ghost use Rattle.sat_base.specs.Limits.{IsMonthWithin};
 
 use crate::bounds;
 use crate::init::{InitWords, init_in};
+use crate::names::{Name, name_of};
 use crate::pairs::{has_form, value};
 use crate::serve::{ServeWords, serve_in};
+use crate::sheet::{SheetWords, sheet_in};
 use crate::values::{number_in, number_or_in, secret_in};
-use sat_base::{Bytes, Caps, Items, Line, Rates, Scheme, limits};
+use sat_base::{Bytes, Caps, Items, Line, Month, Rates, Scheme, limits};
 use std::alloc::Global;
 
 /// What the words ask for. A store is the name of its file.
@@ -42,6 +45,16 @@ pub enum Command {
         lanes: u16,
         term: u64,
         tick: u32,
+    },
+    /// Print what a store's nodes are paid for a month.
+    Sheet {
+        store: Bytes,
+        month: Month,
+    },
+    /// Make so many calls out of a number, over a store in memory.
+    Drill {
+        start: u64,
+        calls: u64,
     },
 }
 
@@ -91,6 +104,21 @@ fn judge_in(line: &Line) -> Option<Command>
     })
 }
 
+// What the words behind `drill` ask for.
+#[tactic(auto, unfolding(crate::specs::Command::drill_of))]
+fn drill_in(line: &Line) -> Option<Command>
+    requires { 1 ≤ length line.now }
+    ensures asked { option_map asked result ≡ drill_of (drop 1 line.now) }
+    ensures within { IfSome result IsWithin }
+{
+    if !has_form(line, &["--start", "--calls"]) {
+        return None;
+    }
+    let start = number_in(0, u64::MAX, value(line, "--start", 1))?;
+    let calls = number_in(1, bounds::CALLS, value(line, "--calls", 1))?;
+    Some(Command::Drill { start, calls })
+}
+
 // The name of a store, as a command keeps it.
 fn name(alloc: Global, store: &str) -> Result<Bytes, LineErr>
     ensures { MatchResult result (λ bytes. bytes ≡ store.now) (λ e. e ≡ LineErr.NoMemory) }
@@ -131,6 +159,17 @@ fn serve_command(alloc: Global, words: &ServeWords<'_>) -> Result<Command, LineE
     })
 }
 
+fn sheet_command(alloc: Global, words: &SheetWords<'_>) -> Result<Command, LineErr>
+    requires { IsMonthWithin words.now.month.0 }
+    ensures { MatchResult result (λ c. (asked c ≡ sheet (sheet_said words.now)) × IsWithin c) (λ e. e ≡ LineErr.NoMemory) }
+{
+    let store = name(alloc, words.store)?;
+    Ok(Command::Sheet {
+        store,
+        month: words.month,
+    })
+}
+
 // The command that the words behind `init` are.
 fn read_init(alloc: Global, line: &Line) -> Result<Command, LineErr>
     requires { 1 ≤ length line.now }
@@ -159,6 +198,38 @@ fn read_serve(alloc: Global, line: &Line) -> Result<Command, LineErr>
     }
 }
 
+// The command that the words behind `sheet` are.
+fn read_sheet(alloc: Global, line: &Line) -> Result<Command, LineErr>
+    requires { 1 ≤ length line.now }
+    ensures within { IfOk result IsWithin }
+    ensures command { IfOk result (λ c. option_map sheet (sheet_of (drop 1 line.now)) ≡ Some (asked c)) }
+    ensures usage { (result ≡ Err LineErr.Usage) ↔ (option_map sheet (sheet_of (drop 1 line.now)) ≡ None) }
+    ensures memory { result ≡ Err LineErr.NoMemory → names_store (option_map sheet (sheet_of (drop 1 line.now))) ≡ true }
+{
+    match sheet_in(line) {
+        Some(words) => sheet_command(alloc, &words),
+        None => Err(LineErr::Usage),
+    }
+}
+
+// The command of that name that the words behind it are.
+fn read_named(alloc: Global, name: Name, line: &Line) -> Result<Command, LineErr>
+    requires { 1 ≤ length line.now }
+    ensures within { IfOk result IsWithin }
+    ensures command { IfOk result (λ c. named_of (Some name) (drop 1 line.now) ≡ Some (asked c)) }
+    ensures usage { (result ≡ Err LineErr.Usage) ↔ (named_of (Some name) (drop 1 line.now) ≡ None) }
+    ensures memory { result ≡ Err LineErr.NoMemory → names_store (named_of (Some name) (drop 1 line.now)) ≡ true }
+{
+    match name {
+        Name::Settle => settle_in(line).ok_or(LineErr::Usage),
+        Name::Judge => judge_in(line).ok_or(LineErr::Usage),
+        Name::Init => read_init(alloc, line),
+        Name::Serve => read_serve(alloc, line),
+        Name::Sheet => read_sheet(alloc, line),
+        Name::Drill => drill_in(line).ok_or(LineErr::Usage),
+    }
+}
+
 /// Reads the words of a command line, after the program's name:
 ///
 /// - `settle` with `--secret HEX64` and, where wanted, `--cap N`;
@@ -166,7 +237,9 @@ fn read_serve(alloc: Global, line: &Line) -> Result<Command, LineErr>
 /// - `init` with `--store FILE`, `--k`, `--m`, `--o` and `--n`, and, where wanted, `--secret HEX64`, `--share`, `--vet`,
 ///   `--fresh`, the rates `--get`, `--audit`, `--repair`, `--storage`, and the caps `--cap-nodes`, `--cap-customers`,
 ///   `--cap-segments`, `--cap-settled`, `--cap-tallies`, `--cap-statements`;
-/// - `serve` with `--store FILE` and `--port P` and, where wanted, `--lanes`, `--term` and `--tick`.
+/// - `serve` with `--store FILE` and `--port P` and, where wanted, `--lanes`, `--term` and `--tick`;
+/// - `sheet` with `--store FILE` and `--month YYYY-MM`;
+/// - `drill` with `--start N` and `--calls N`.
 ///
 /// Errors: `Usage` exactly for any other words; `NoMemory` only where a store is named.
 #[tactic(auto, unfolding(crate::specs::Command::command_of))]
@@ -179,18 +252,8 @@ pub fn read_line(alloc: Global, line: &Line) -> Result<Command, LineErr>
     if line.is_empty() {
         return Err(LineErr::Usage);
     }
-    let name = line.word(0);
-    if name == "settle" {
-        return settle_in(line).ok_or(LineErr::Usage);
+    match name_of(line.word(0)) {
+        Some(name) => read_named(alloc, name, line),
+        None => Err(LineErr::Usage),
     }
-    if name == "judge" {
-        return judge_in(line).ok_or(LineErr::Usage);
-    }
-    if name == "init" {
-        return read_init(alloc, line);
-    }
-    if name == "serve" {
-        return read_serve(alloc, line);
-    }
-    Err(LineErr::Usage)
 }

@@ -11,8 +11,10 @@
 pub mod bounds;
 mod command;
 mod init;
+mod names;
 mod pairs;
 mod serve;
+mod sheet;
 mod values;
 
 pub use command::{Command, LineErr, read_line};

@@ -1,9 +1,11 @@
 // The values on a command line.
 ghost use Rattle.std.specs.Prelude.{◌≡◌, ◌≤◌, IfSome, option_map};
-ghost use Rattle.command_line.specs.Values.{number_or, number_within, secret_of, secret_or_none};
+ghost use Rattle.sat_base.specs.Limits.{IsMonthWithin};
+ghost use Rattle.command_line.specs.Values.{month_of, number_or, number_within, secret_of, secret_or_none};
 
 use hex::FromHex;
-use sat_base::number;
+use month_text::month_of_text;
+use sat_base::{Month, number};
 
 /// A secret of 64 hexadecimal digits, in either case.
 pub(crate) fn secret_in(text: Option<&str>) -> Option<[u8; 32]>
@@ -23,6 +25,14 @@ pub(crate) fn secret_or_none_in(text: Option<&str>) -> Option<Option<[u8; 32]>>
         Some(secret) => Some(Some(secret)),
         None => None,
     }
+}
+
+/// A month, as `YYYY-MM`.
+pub(crate) fn month_in(text: Option<&str>) -> Option<Month>
+    ensures value { option_map (λ m. m.0) result ≡ month_of (option_map (λ v. v.now) text.entry) }
+    ensures within { IfSome result (λ m. IsMonthWithin m.0) }
+{
+    month_of_text(text?.as_bytes())
 }
 
 /// A number from the least to the greatest one, in 1 to 20 decimal digits.

@@ -4,12 +4,12 @@ use Rattle.std.proofs.lemmas.List.{take-append-drop}
 use Rattle.httparse.specs.Grammar.{RequestHead}
 use Rattle.httparse.proofs.GrammarLemmas.{request_unique}
 use Rattle.httparse.specs.Spans.{name_and_value}
-use Rattle.http_edge.specs.Demands.{Demands, no_route, bad_method, routed, of_headers}
+use Rattle.http_edge.specs.Demands.{Demands, no_route, bad_method, routed, method_of, of_headers}
 use Rattle.http_edge.specs.Heads.{HasHead, max_head}
 use Rattle.http_edge.specs.Paths.{IsPath}
-use Rattle.http_edge.specs.Requests.{Says, SaysBehind, SaysBody, no_head, short, long, headed, refused, bodied, short_body, whole}
+use Rattle.http_edge.specs.Requests.{Says, SaysBehind, SaysBody, no_head, short, long, headed, refused, stated, bodied, short_body, whole}
 use Rattle.http_edge.specs.declared.demand.Demand.{Demand}
-use Rattle.http_edge.specs.declared.demand.Demand.TheVariants.{Refused, Body}
+use Rattle.http_edge.specs.declared.demand.Demand.TheVariants.{Refused, Body, Statement}
 use Rattle.http_edge.specs.declared.routes.Route.{Route}
 use Rattle.http_edge.specs.declared.wish.EdgeErr.{EdgeErr}
 use Rattle.http_edge.specs.declared.wish.Wish.{Wish}
@@ -34,9 +34,9 @@ one_demand secret h p q (no_route none) (bad_method r at m) = absurd (none r at)
 one_demand secret h p q (no_route none) (routed r at m) = absurd (none r at)
 one_demand secret h p q (bad_method r at m) (no_route none) = absurd (none r at)
 one_demand secret h p q (bad_method r at m) (bad_method s to n) = refl
-one_demand secret h p q (bad_method r at m) (routed s to n) = absurd (m n)
+one_demand secret h p q (bad_method r at m) (routed s to n) = absurd (m (n ∙ ap method_of (one_route h.target s r to at)))
 one_demand secret h p q (routed r at m) (no_route none) = absurd (none r at)
-one_demand secret h p q (routed r at m) (bad_method s to n) = absurd (n m)
+one_demand secret h p q (routed r at m) (bad_method s to n) = absurd (n (m ∙ ap method_of (one_route h.target r s at to)))
 one_demand secret h p q (routed r at m) (routed s to n) = ap (λ r. of_headers secret r (map name_and_value h.fields)) (one_route h.target r s at to)
 
 one_body : (r : Route) (n : ℕ) (rest : List ℕ) (a b : Result Wish EdgeErr) → SaysBody r n rest a → SaysBody r n rest b → a ≡ b
@@ -48,6 +48,11 @@ one_body r n rest a b (whole enough) (whole more) = refl
 one_behind : (secret : List ℕ) (h : RequestHead) (rest : List ℕ) (a b : Result Wish EdgeErr) → SaysBehind secret h rest a → SaysBehind secret h rest b → a ≡ b
 one_behind secret h rest a b (refused e d) (refused f g) = let same = one_demand secret h (Refused e) (Refused f) d g in cc
 one_behind secret h rest a b (refused e d) (bodied r n s g y) = let same = one_demand secret h (Refused e) (Body r n) d g in cc
+one_behind secret h rest a b (refused e d) (stated node month g) = let same = one_demand secret h (Refused e) (Statement node month) d g in cc
+one_behind secret h rest a b (stated node month d) (refused f g) = let same = one_demand secret h (Statement node month) (Refused f) d g in cc
+one_behind secret h rest a b (stated node month d) (stated other later g) = let same = one_demand secret h (Statement node month) (Statement other later) d g in cc
+one_behind secret h rest a b (stated node month d) (bodied r n s g y) = let same = one_demand secret h (Statement node month) (Body r n) d g in cc
+one_behind secret h rest a b (bodied r n s d x) (stated node month g) = let same = one_demand secret h (Body r n) (Statement node month) d g in cc
 one_behind secret h rest a b (bodied r n s d x) (refused f g) = let same = one_demand secret h (Body r n) (Refused f) d g in cc
 one_behind secret h rest a b (bodied r n s d x) (bodied q m t g y) =
     let same = one_demand secret h (Body r n) (Body q m) d g in

@@ -7,10 +7,11 @@ use Rattle.std.specs.Str.{bytes_eq}
 use Rattle.std.specs.Str.Parse.{digits_value}
 use Rattle.std.specs.Cmp.Lexicographic.{same_text, other_text}
 use Rattle.sat_base.specs.Text.{same, IsNumber, number_up_to, cut_of}
+use Rattle.month_text.specs.MonthText.{month_in}
 use Rattle.http_edge.specs.Paths.{IsPath}
-use Rattle.http_edge.specs.RouteSteps.{starts, with_number, numbered_of, operator_at, node_word, node_at, segment_word, segment_at, customer_word, customer_at, route_at}
+use Rattle.http_edge.specs.RouteSteps.{starts, with_number, numbered_of, operator_at, node_word, month_route, statement_at, node_at, segment_word, segment_at, customer_word, customer_at, route_at}
 use Rattle.http_edge.specs.declared.routes.Route.{Route}
-use Rattle.http_edge.specs.declared.routes.Route.TheVariants.{Begin, Commit, Get, Delete, Settle, SetFree, AddNode, AddCustomer, Stop}
+use Rattle.http_edge.specs.declared.routes.Route.TheVariants.{Begin, Commit, Get, Delete, Settle, SetFree, Exit, Statement, AddNode, AddCustomer, CloseMonth, SetRates, Stop}
 use Rattle.sat_base.proofs.TextLemmas.{then_some, map_some, cond_some, test_some, cut_front, cut_back, number_is, number_found}
 
 not_case : (b : Bool) → true ≡ not b → false ≡ b
@@ -42,9 +43,16 @@ numbered_found most bound text p b e =
 pub route_from : (r : Route) (path : List ℕ) → IsPath r path → route_at path ≡ Some r
 route_from AddNode path h = ap route_at h
 route_from AddCustomer path h = ap route_at h
+route_from CloseMonth path h = ap route_at h
+route_from SetRates path h = ap route_at h
 route_from Stop path h = ap route_at h
 route_from (Settle node) path h = ap route_at h.2 ∙ ap (option_and_then node_word) (numbered_front 4294967295 (2 ^ 32) h.0 node.0 (codes "settle") refl h.1)
 route_from (SetFree node) path h = ap route_at h.2 ∙ ap (option_and_then node_word) (numbered_front 4294967295 (2 ^ 32) h.0 node.0 (codes "free") refl h.1)
+route_from (Exit node) path h = ap route_at h.2 ∙ ap (option_and_then node_word) (numbered_front 4294967295 (2 ^ 32) h.0 node.0 (codes "exit") refl h.1)
+route_from (Statement node month) path h =
+    ap route_at h.2.2
+    ∙ ap (option_and_then node_word) (numbered_front 4294967295 (2 ^ 32) h.2.0 node.0 (codes "statement/" ++ h.0) refl h.2.1)
+    ∙ ap (option_map (month_route node.0)) h.1
 route_from (Begin customer) path h = ap route_at h.2 ∙ ap (option_and_then customer_word) (numbered_front 4294967295 (2 ^ 32) h.0 customer.0 (codes "segments") refl h.1)
 route_from (Commit customer segment) path h =
     ap route_at h.2.2
@@ -74,9 +82,15 @@ operator_found path r e =
       | inl p ↦ subst P p.1 (same_is path (codes "/op/nodes") p.0)
       | inr f ↦ elim (cond_some (same path (codes "/op/customers")) AddCustomer r _ f.1) [
         | inl p ↦ subst P p.1 (same_is path (codes "/op/customers") p.0)
-        | inr g ↦ elim (cond_some (same path (codes "/op/stop")) Stop r None g.1) [
-          | inl p ↦ subst P p.1 (same_is path (codes "/op/stop") p.0)
-          | inr k ↦ let no : Some r ≡ None = sym k.1 in cc
+        | inr g ↦ elim (cond_some (same path (codes "/op/close")) CloseMonth r _ g.1) [
+          | inl p ↦ subst P p.1 (same_is path (codes "/op/close") p.0)
+          | inr h ↦ elim (cond_some (same path (codes "/op/rates")) SetRates r _ h.1) [
+            | inl p ↦ subst P p.1 (same_is path (codes "/op/rates") p.0)
+            | inr i ↦ elim (cond_some (same path (codes "/op/stop")) Stop r None i.1) [
+              | inl p ↦ subst P p.1 (same_is path (codes "/op/stop") p.0)
+              | inr k ↦ let no : Some r ≡ None = sym k.1 in cc
+            ]
+          ]
         ]
       ]
     ]
@@ -85,6 +99,20 @@ operator_found path r e =
 word_is : (path front ds rest behind word : List ℕ) → path ≡ front ++ rest → rest ≡ ds ++ 47 ∷ behind → same behind word ≡ true → path ≡ front ++ (ds ++ 47 ∷ word)
 word_is path front ds rest behind word e f g = e ∙ ap (λ l. front ++ l) (f ∙ ap (λ l. ds ++ 47 ∷ l) (same_is behind word g))
 
+-- the whole path of a statement
+statement_is : (path rest n behind text : List ℕ) → path ≡ codes "/n/" ++ rest → rest ≡ n ++ 47 ∷ behind → behind ≡ codes "statement/" ++ text → path ≡ codes "/n/" ++ (n ++ (codes "/statement/" ++ text))
+statement_is path rest n behind text e f g = e ∙ ap (λ l. codes "/n/" ++ l) (f ∙ ap (λ l. n ++ 47 ∷ l) g)
+
+statement_found : (path rest n behind : List ℕ) (node : ℕ) (r : Route) → IsNumber n node (2 ^ 32) → path ≡ codes "/n/" ++ rest → rest ≡ n ++ 47 ∷ behind → statement_at node behind ≡ Some r → IsPath r path
+statement_found path rest n behind node r number e f h =
+    let P : Route → Type 0 = λ r. IsPath r path in
+    elim (test_some (starts (codes "statement/") behind) r (option_map (month_route node) (month_in (drop 10 behind))) None h) [
+      | inl p ↦
+          let m = map_some (month_route node) (month_in (drop 10 behind)) r p.1 in
+          subst P m.2 (drop 10 behind, m.1, (n, number, statement_is path rest n behind (drop 10 behind) e f (starts_is (codes "statement/") behind p.0)))
+      | inr k ↦ let no : Some r ≡ None = sym k.1 in cc
+    ]
+
 node_found : (path rest : List ℕ) (r : Route) → path ≡ codes "/n/" ++ rest → node_at rest ≡ Some r → IsPath r path
 node_found path rest r path_is e =
     let P : Route → Type 0 = λ r. IsPath r path in
@@ -92,9 +120,12 @@ node_found path rest r path_is e =
     let n = numbered_found 4294967295 (2 ^ 32) rest t.0 refl t.1 in
     elim (cond_some (same t.0.1 (codes "settle")) (Settle (record { 0 = t.0.0 })) r _ t.2) [
       | inl p ↦ subst P p.1 (n.0, n.1, word_is path (codes "/n/") n.0 rest t.0.1 (codes "settle") path_is n.2 p.0)
-      | inr f ↦ elim (cond_some (same t.0.1 (codes "free")) (SetFree (record { 0 = t.0.0 })) r None f.1) [
+      | inr f ↦ elim (cond_some (same t.0.1 (codes "free")) (SetFree (record { 0 = t.0.0 })) r _ f.1) [
         | inl p ↦ subst P p.1 (n.0, n.1, word_is path (codes "/n/") n.0 rest t.0.1 (codes "free") path_is n.2 p.0)
-        | inr k ↦ let no : Some r ≡ None = sym k.1 in cc
+        | inr g ↦ elim (cond_some (same t.0.1 (codes "exit")) (Exit (record { 0 = t.0.0 })) r _ g.1) [
+          | inl p ↦ subst P p.1 (n.0, n.1, word_is path (codes "/n/") n.0 rest t.0.1 (codes "exit") path_is n.2 p.0)
+          | inr h ↦ statement_found path rest n.0 t.0.1 t.0.0 r n.1 path_is n.2 h.1
+        ]
       ]
     ]
 

@@ -14,10 +14,13 @@ use Rattle.sat_base.specs.declared.requests.Done.{Done}
 use Rattle.sat_base.specs.declared.requests.Done.TheVariants as dones
 use Rattle.sat_base.specs.declared.requests.Offer.{Offer}
 use Rattle.sat_base.specs.declared.requests.Place.{Place}
-use Rattle.serde_json.specs.Data.{Data, boolean, string, array, object, member, no_members}
+use Rattle.month_text.specs.MonthText.{month_text}
+use Rattle.tally_payout.specs.declared.amounts.Parts.{Parts}
+use Rattle.tally_payout.specs.declared.amounts.Statement.{Statement}
+use Rattle.serde_json.specs.Data.{Data, Members, boolean, string, array, object, member, no_members, put}
 use Rattle.serde_json.specs.View.{items_of}
 use Rattle.serde_json.specs.Written.{compact_text}
-use Rattle.http_edge.specs.Refusals.{whole, month_text, refusal_data, refusal_status}
+use Rattle.http_edge.specs.Refusals.{whole, refusal_data, refusal_status}
 use Rattle.http_edge.specs.declared.wish.EdgeErr.{EdgeErr}
 use Rattle.http_edge.specs.declared.wish.EdgeErr.TheVariants as edges
 
@@ -107,6 +110,29 @@ done_data secret (dones.Offer offer) = offer_data secret offer
 done_data secret (dones.Committed segment) = segment_data segment.0 (codes "live")
 done_data secret (dones.Deleted segment) = segment_data segment.0 (codes "deleted")
 
+-- an amount of micro-dollars, as a text
+abbrev pub money : ℕ → Data
+money amount = string (decimal amount)
+
+-- each is put at its place in the order of the keys
+abbrev pub front_members : Statement → Members
+front_members s =
+    put (codes "percent") (whole s.percent) (put (codes "node") (whole s.node.0)
+    (put (codes "month") (string (month_text s.month.0)) (put (codes "age") (whole s.age) no_members)))
+
+abbrev pub with_parts : Parts → Members → Members
+with_parts p members =
+    put (codes "storage") (money p.storage) (put (codes "repair") (money p.repair) (put (codes "gross") (money p.gross)
+    (put (codes "get") (money p.get) (put (codes "audit") (money p.audit) members))))
+
+abbrev pub with_rest : Statement → Members → Members
+with_rest s members =
+    put (codes "returned") (money s.returned) (put (codes "pot") (money s.pot) (put (codes "paid") (money s.paid)
+    (put (codes "held") (money s.held) members)))
+
+abbrev pub statement_data : Statement → Data
+statement_data s = object (with_rest s (with_parts s.parts (front_members s)))
+
 -- no caller is told the other replies
 abbrev pub no_answer : Data
 no_answer = object no_members
@@ -116,6 +142,7 @@ reply_data secret (replies.Done done) = done_data secret done
 reply_data secret (replies.Settled amount) = amount_data amount (codes "settled")
 reply_data secret (replies.Again amount) = amount_data amount (codes "again")
 reply_data secret replies.FreeSet = result_data (codes "set")
+reply_data secret (replies.Statement statement) = statement_data statement
 reply_data secret (replies.Closed month fresh) = closed_data fresh (month_text month.0)
 reply_data secret replies.Stopping = result_data (codes "stopping")
 reply_data secret (replies.Exiting node) = result_data (codes "exiting")
@@ -142,7 +169,8 @@ abbrev pub field_name : ℕ → List ℕ
 field_name place =
     if place == 1 then codes "request" else (if place == 2 then codes "len" else (if place == 3 then codes "pieces" else
     (if place == 4 then codes "order" else (if place == 5 then codes "free" else (if place == 6 then codes "addr" else
-    (if place == 7 then codes "port" else codes "month"))))))
+    (if place == 7 then codes "port" else (if place == 8 then codes "month" else (if place == 9 then codes "get" else
+    (if place == 10 then codes "audit" else (if place == 11 then codes "repair" else codes "storage"))))))))))
 
 abbrev pub field_data : List ℕ → Data
 field_data name = object (member (codes "error") (string (codes "field")) (member (codes "field") (string name) no_members))

@@ -9,12 +9,16 @@ use Rattle.serde_json.specs.Find.{get, as_str, as_array, as_number, as_u64}
 use Rattle.sat_base.specs.declared.ids.CustomerId.{CustomerId}
 use Rattle.sat_base.specs.declared.ids.NodeId.{NodeId}
 use Rattle.sat_base.specs.declared.ids.SegId.{SegId}
+use Rattle.sat_base.specs.declared.limits.TheConstants as limits
+use Rattle.sat_base.specs.declared.month.Month.{Month}
+use Rattle.sat_base.specs.declared.rates.Rates.{Rates}
 use Rattle.sat_base.specs.Results.{◌>>=◌}
+use Rattle.month_text.specs.MonthText.{month_in}
 use Rattle.http_edge.specs.Address.{address_of}
 use Rattle.http_edge.specs.declared.routes.Route.{Route}
 use Rattle.http_edge.specs.declared.routes.Route.TheVariants as routes
 use Rattle.http_edge.specs.declared.wish.Wish.{Wish}
-use Rattle.http_edge.specs.declared.wish.Wish.TheVariants.{AddNode, AddCustomer, Begin, Commit, Get, Delete, Settle, SetFree, Stop}
+use Rattle.http_edge.specs.declared.wish.Wish.TheVariants.{AddNode, AddCustomer, Begin, Commit, Get, Delete, Settle, SetFree, Exit, Statement, CloseMonth, SetRates, Stop}
 use Rattle.http_edge.specs.declared.wish.EdgeErr.{EdgeErr}
 use Rattle.http_edge.specs.declared.wish.EdgeErr.TheVariants.{Json, Field, NoMemory}
 
@@ -80,6 +84,21 @@ pieces_of ds = cond (nat_le (count_of ds) 256) (bytes_of ds) None
 abbrev pub pieces_at : Data → Result (List ℕ) EdgeErr
 pieces_at d = needed 3 (option_and_then pieces_of (option_and_then as_array (get (codes "pieces") d)))
 
+abbrev pub month_of : ℕ → Month
+month_of n = record { 0 = n }
+
+abbrev pub month_at : Data → Result Month EdgeErr
+month_at d = needed 8 (option_map month_of (option_and_then month_in (option_and_then as_str (get (codes "month") d))))
+
+-- a rate, in micro-dollars
+abbrev pub rate_at : ℕ → List ℕ → Data → Result ℕ EdgeErr
+rate_at place name d = needed place (option_and_then (within 0 limits.RATE) (option_and_then whole_of (get name d)))
+
+abbrev pub rates_at : Data → Result Rates EdgeErr
+rates_at d =
+    rate_at 9 (codes "get") d >>= λ get. (rate_at 10 (codes "audit") d >>= λ audit. (rate_at 11 (codes "repair") d >>= λ repair. (rate_at 12 (codes "storage") d >>= λ storage.
+    Ok (record { get = get; audit = audit; repair = repair; storage = storage }))))
+
 -- ---- bodies
 
 abbrev pub node_in : Data → Result Wish EdgeErr
@@ -102,6 +121,12 @@ settle_in node d = order_at d >>= λ bytes. Ok (Settle node bytes)
 abbrev pub free_in : NodeId → Data → Result Wish EdgeErr
 free_in node d = number_at 5 (codes "free") d >>= λ free. Ok (SetFree node free)
 
+abbrev pub close_in : Data → Result Wish EdgeErr
+close_in d = month_at d >>= λ month. Ok (CloseMonth month)
+
+abbrev pub rates_in : Data → Result Wish EdgeErr
+rates_in d = month_at d >>= λ month. (rates_at d >>= λ rates. Ok (SetRates month rates))
+
 -- what the value of a body says, by its fields in order
 abbrev pub wish_in : Route → Data → Result Wish EdgeErr
 wish_in routes.AddNode d = node_in d
@@ -112,6 +137,10 @@ wish_in (routes.Get customer segment) d = numbered_in d (λ request. Get custome
 wish_in (routes.Delete customer segment) d = numbered_in d (λ request. Delete customer request segment)
 wish_in (routes.Settle node) d = settle_in node d
 wish_in (routes.SetFree node) d = free_in node d
+wish_in (routes.Exit node) d = Ok (Exit node)
+wish_in (routes.Statement node month) d = Ok (Statement node month)
+wish_in routes.CloseMonth d = close_in d
+wish_in routes.SetRates d = rates_in d
 wish_in routes.Stop d = Ok Stop
 
 abbrev pub of_reading : Route → Option Data → Result Wish EdgeErr

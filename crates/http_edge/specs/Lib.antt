@@ -10,3 +10,4 @@ pub mod Refusals
 pub mod Requests
 pub mod RouteSteps
 pub mod Sending
+pub mod Wishes

@@ -1,5 +1,6 @@
 -- Refusals, as the JSON of their answers: a name, a number and the evidence, with the keys in byte order.
-use Rattle.std.specs.Prelude.{ℕ, ◌+◌, ◌/◌, ◌%◌, List, ◌++◌, codes, decimal, cond, nat_lt, ◌==◌, if◌then◌else◌}
+use Rattle.std.specs.Prelude.{ℕ, List, codes, ◌==◌, if◌then◌else◌}
+use Rattle.month_text.specs.MonthText.{month_text}
 use Rattle.serde_json.specs.Data.{Data, Members, number, unsigned, string, object, member, no_members, put}
 use Rattle.machine_calls.specs.Numbers.{number_of}
 use Rattle.machine_calls.specs.declared.refusal.Refusal.{Refusal}
@@ -25,12 +26,6 @@ abbrev pub too_few_data : ℕ → ℕ → Data
 too_few_data have need =
     object (member (codes "error") (string (codes "too-few")) (member (codes "have") (whole have)
     (member (codes "need") (whole need) (member (codes "number") (whole 15) no_members))))
-
--- the year, and the month in two digits
-abbrev pub month_text : ℕ → List ℕ
-month_text month =
-    let place = month % 12 + 1 in
-    decimal (month / 12) ++ (cond (nat_lt place 10) (codes "-0") (codes "-") ++ decimal place)
 
 abbrev pub table_text : TableName → List ℕ
 table_text tables.Nodes = codes "nodes"

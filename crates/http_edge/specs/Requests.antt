@@ -4,7 +4,7 @@ use Rattle.httparse.specs.Grammar.{RequestHead, NeverHasRequest}
 use Rattle.http_edge.specs.Demands.{Demands, max_body}
 use Rattle.http_edge.specs.Fields.{body_of}
 use Rattle.http_edge.specs.Heads.{max_head, HasHead, LacksHead, MayReadHead}
-use Rattle.http_edge.specs.declared.demand.Demand.TheVariants.{Refused, Body}
+use Rattle.http_edge.specs.declared.demand.Demand.TheVariants.{Refused, Body, Statement}
 use Rattle.http_edge.specs.declared.fetch.BodyErr.{BodyErr}
 use Rattle.http_edge.specs.declared.fetch.BodyErr.TheVariants as fetches
 use Rattle.http_edge.specs.declared.routes.Route.{Route}
@@ -13,6 +13,9 @@ use Rattle.http_edge.specs.declared.wish.EdgeErr.TheVariants.{Head, Short, HeadS
 use Rattle.http_edge.specs.declared.wish.ReadErr.{ReadErr}
 use Rattle.http_edge.specs.declared.wish.ReadErr.TheVariants.{Fault, Edge}
 use Rattle.http_edge.specs.declared.wish.Wish.{Wish}
+use Rattle.http_edge.specs.declared.wish.Wish.TheVariants as wishes
+use Rattle.sat_base.specs.declared.ids.NodeId.{NodeId}
+use Rattle.sat_base.specs.declared.month.Month.{Month}
 
 -- what a body of that size says, at the front of the bytes behind a head
 pub data SaysBody (r : Route) (n : ℕ) (rest : List ℕ) : Result Wish EdgeErr → Type 0 where
@@ -22,6 +25,7 @@ pub data SaysBody (r : Route) (n : ℕ) (rest : List ℕ) : Result Wish EdgeErr 
 -- what a head and the bytes behind it say
 pub data SaysBehind (secret : List ℕ) (h : RequestHead) (rest : List ℕ) : Result Wish EdgeErr → Type 0 where
   refused : (e : EdgeErr) → Demands secret h (Refused e) → SaysBehind secret h rest (Err e)
+  stated : (node : NodeId) (month : Month) → Demands secret h (Statement node month) → SaysBehind secret h rest (Ok (wishes.Statement node month))
   bodied : (r : Route) (n : ℕ) (said : Result Wish EdgeErr) → Demands secret h (Body r n) → SaysBody r n rest said → SaysBehind secret h rest said
 
 -- a head asks for a body, of which that many bytes are missing behind it

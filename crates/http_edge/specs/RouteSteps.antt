@@ -1,8 +1,9 @@
 -- How the route of a path is found, step by step. That it is the route of the path's relation is proved.
 use Rattle.std.specs.Prelude.{ℕ, List, length, take, drop, codes, cond, Bool, Option, Some, None, option_map, option_and_then}
 use Rattle.sat_base.specs.Text.{same, cut_of, number_up_to}
+use Rattle.month_text.specs.MonthText.{month_in}
 use Rattle.http_edge.specs.declared.routes.Route.{Route}
-use Rattle.http_edge.specs.declared.routes.Route.TheVariants.{Begin, Commit, Get, Delete, Settle, SetFree, AddNode, AddCustomer, Stop}
+use Rattle.http_edge.specs.declared.routes.Route.TheVariants.{Begin, Commit, Get, Delete, Settle, SetFree, Exit, Statement, AddNode, AddCustomer, CloseMonth, SetRates, Stop}
 
 -- the text begins with that one
 abbrev pub starts : List ℕ → List ℕ → Bool
@@ -19,12 +20,21 @@ abbrev pub operator_at : List ℕ → Option Route
 operator_at path =
     cond (same path (codes "/op/nodes")) (Some AddNode)
     (cond (same path (codes "/op/customers")) (Some AddCustomer)
-    (cond (same path (codes "/op/stop")) (Some Stop) None))
+    (cond (same path (codes "/op/close")) (Some CloseMonth)
+    (cond (same path (codes "/op/rates")) (Some SetRates)
+    (cond (same path (codes "/op/stop")) (Some Stop) None))))
+
+abbrev pub month_route : ℕ → ℕ → Route
+month_route node month = Statement (record { 0 = node }) (record { 0 = month })
+
+abbrev pub statement_at : ℕ → List ℕ → Option Route
+statement_at node word = cond (starts (codes "statement/") word) (option_map (month_route node) (month_in (drop 10 word))) None
 
 abbrev pub node_word : ℕ × List ℕ → Option Route
 node_word p =
     cond (same p.1 (codes "settle")) (Some (Settle (record { 0 = p.0 })))
-    (cond (same p.1 (codes "free")) (Some (SetFree (record { 0 = p.0 }))) None)
+    (cond (same p.1 (codes "free")) (Some (SetFree (record { 0 = p.0 })))
+    (cond (same p.1 (codes "exit")) (Some (Exit (record { 0 = p.0 }))) (statement_at p.0 p.1)))
 
 abbrev pub node_at : List ℕ → Option Route
 node_at rest = option_and_then node_word (numbered_of 4294967295 rest)

@@ -118,6 +118,10 @@ fn name_of_field(place: u8) -> &'static str
         5 => "free",
         6 => "addr",
         7 => "port",
-        _ => "month",
+        8 => "month",
+        9 => "get",
+        10 => "audit",
+        11 => "repair",
+        _ => "storage",
     }
 }

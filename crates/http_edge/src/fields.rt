@@ -1,10 +1,12 @@
 // What a body says under a route.
-ghost use Rattle.std.specs.Prelude.{◌≡◌, codes, option_map, option_and_then};
+ghost use Rattle.std.specs.Prelude.{◌≡◌, codes, option_map, option_and_then, IfOk};
 ghost use Rattle.serde_json.specs.Find.{get, as_str, as_array};
 ghost use Rattle.serde_json.specs.View.{view as data_of, items_view};
-ghost use Rattle.http_edge.specs.Fields.{Gives, body_of, wish_in, node_in, begin_in, commit_in, settle_in, free_in, number_at, whole_of, port_at, addr_at, order_at, pieces_at};
+ghost use Rattle.http_edge.specs.Fields.{Gives, body_of, wish_in, node_in, begin_in, commit_in, settle_in, free_in, close_in, rates_in, number_at, whole_of, port_at, addr_at, order_at, pieces_at};
+ghost use Rattle.http_edge.specs.Wishes.{IsRouteWithin, IsWishWithin};
 
 use crate::address::address;
+use crate::months::{month_from, rates_from};
 use crate::order::order_of;
 use crate::pieces::indexes_of;
 use crate::routes::Route;
@@ -15,7 +17,9 @@ use std::alloc::Global;
 
 /// The wish of a body under a route.
 pub(crate) fn wish_of(alloc: Global, route: Route, body: &[u8]) -> Result<Wish, EdgeErr>
-    ensures { Gives result (body_of route body.now) }
+    requires { IsRouteWithin route }
+    ensures wish { Gives result (body_of route body.now) }
+    ensures within { IfOk result IsWishWithin }
 {
     match Value::from_slice(alloc, body) {
         Ok(value) => wish_from(alloc, route, &value),
@@ -29,7 +33,9 @@ pub(crate) fn wish_of(alloc: Global, route: Route, body: &[u8]) -> Result<Wish, 
 }
 
 fn wish_from(alloc: Global, route: Route, value: &Value) -> Result<Wish, EdgeErr>
-    ensures { Gives result (wish_in route (data_of value.now)) }
+    requires { IsRouteWithin route }
+    ensures wish { Gives result (wish_in route (data_of value.now)) }
+    ensures within { IfOk result IsWishWithin }
 {
     match route {
         Route::AddNode => node_from(value),
@@ -50,12 +56,17 @@ fn wish_from(alloc: Global, route: Route, value: &Value) -> Result<Wish, EdgeErr
         }),
         Route::Settle { node } => settle_from(alloc, node, value),
         Route::SetFree { node } => free_from(node, value),
+        Route::Exit { node } => Ok(Wish::Exit { node }),
+        Route::Statement { node, month } => Ok(Wish::Statement { node, month }),
+        Route::CloseMonth => close_from(value),
+        Route::SetRates => set_rates_from(value),
         Route::Stop => Ok(Wish::Stop),
     }
 }
 
 fn node_from(value: &Value) -> Result<Wish, EdgeErr>
-    ensures { result ≡ node_in (data_of value.now) }
+    ensures wish { result ≡ node_in (data_of value.now) }
+    ensures within { IfOk result IsWishWithin }
 {
     let request = request_of(value)?;
     let addr = addr_of(value)?;
@@ -70,7 +81,8 @@ fn node_from(value: &Value) -> Result<Wish, EdgeErr>
 }
 
 fn begin_from(customer: CustomerId, value: &Value) -> Result<Wish, EdgeErr>
-    ensures { result ≡ begin_in customer (data_of value.now) }
+    ensures wish { result ≡ begin_in customer (data_of value.now) }
+    ensures within { IfOk result IsWishWithin }
 {
     let request = request_of(value)?;
     let len = number_of(value, "len", 2)?;
@@ -87,7 +99,8 @@ fn commit_from(
     segment: SegId,
     value: &Value,
 ) -> Result<Wish, EdgeErr>
-    ensures { Gives result (commit_in customer segment (data_of value.now)) }
+    ensures wish { Gives result (commit_in customer segment (data_of value.now)) }
+    ensures within { IfOk result IsWishWithin }
 {
     let request = request_of(value)?;
     let indexes = pieces_in(alloc, value)?;
@@ -100,17 +113,36 @@ fn commit_from(
 }
 
 fn settle_from(alloc: Global, node: NodeId, value: &Value) -> Result<Wish, EdgeErr>
-    ensures { Gives result (settle_in node (data_of value.now)) }
+    ensures wish { Gives result (settle_in node (data_of value.now)) }
+    ensures within { IfOk result IsWishWithin }
 {
     let bytes = order_in(alloc, value)?;
     Ok(Wish::Settle { node, bytes })
 }
 
 fn free_from(node: NodeId, value: &Value) -> Result<Wish, EdgeErr>
-    ensures { result ≡ free_in node (data_of value.now) }
+    ensures wish { result ≡ free_in node (data_of value.now) }
+    ensures within { IfOk result IsWishWithin }
 {
     let free = number_of(value, "free", 5)?;
     Ok(Wish::SetFree { node, free })
+}
+
+fn close_from(value: &Value) -> Result<Wish, EdgeErr>
+    ensures wish { result ≡ close_in (data_of value.now) }
+    ensures within { IfOk result IsWishWithin }
+{
+    let month = month_from(value)?;
+    Ok(Wish::CloseMonth { month })
+}
+
+fn set_rates_from(value: &Value) -> Result<Wish, EdgeErr>
+    ensures wish { result ≡ rates_in (data_of value.now) }
+    ensures within { IfOk result IsWishWithin }
+{
+    let month = month_from(value)?;
+    let rates = rates_from(value)?;
+    Ok(Wish::SetRates { month, rates })
 }
 
 fn request_of(value: &Value) -> Result<u64, EdgeErr>
@@ -128,15 +160,15 @@ fn number_of(value: &Value, name: &str, place: u8) -> Result<u64, EdgeErr>
     }
 }
 
-// The field of that name, where it is a whole number from 0 to 2^64 - 1.
-fn whole_number(value: &Value, name: &str) -> Option<u64>
+/// The field of that name, where it is a whole number from 0 to 2^64 - 1.
+pub(crate) fn whole_number(value: &Value, name: &str) -> Option<u64>
     ensures { result ≡ option_and_then whole_of (get name.now (data_of value.now)) }
 {
     value.get(name)?.as_u64()
 }
 
-// The field of that name, where it is a text.
-fn text_of<'a>(value: &'a Value, name: &str) -> Option<&'a str>
+/// The field of that name, where it is a text.
+pub(crate) fn text_of<'a>(value: &'a Value, name: &str) -> Option<&'a str>
     ensures { option_map (λ s. s.now) result ≡ option_and_then as_str (get name.now (data_of value.now)) }
 {
     value.get(name)?.as_str()

@@ -5,7 +5,7 @@ ghost use Rattle.serde_json.specs.Written.{compact_text};
 ghost use Rattle.http_edge.specs.Address.{address_of, IsAddress};
 ghost use Rattle.http_edge.specs.Answers.{amount_data, edge_data};
 ghost use Rattle.http_edge.specs.Heads.{HasHead};
-ghost use Rattle.http_edge.specs.Refusals.{refusal_data, month_text};
+ghost use Rattle.http_edge.specs.Refusals.{refusal_data};
 ghost use Rattle.http_edge.specs.Requests.{Says, SaysBehind};
 ghost use Rattle.http_edge.specs.declared.wish.EdgeErr.{EdgeErr};
 ghost use Rattle.http_edge.specs.declared.wish.Wish.{Wish};
@@ -34,6 +34,5 @@ pub fn bodies_are_spelled()
         ≡ codes "{\"error\":\"late\",\"number\":8,\"until\":" ++ decimal until ++ codes "}" }
     ensures few { (have need : ℕ) → compact_text (refusal_data (TooFew have need))
         ≡ codes "{\"error\":\"too-few\",\"have\":" ++ (decimal have ++ (codes ",\"need\":" ++ (decimal need ++ codes ",\"number\":15}"))) }
-    ensures month { month_text 24314 ≡ codes "2026-03" }
     ensures field { compact_text (edge_data (EdgeErr.Field 4)) ≡ codes "{\"error\":\"field\",\"field\":\"order\"}" }
 {}

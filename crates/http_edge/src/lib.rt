@@ -6,7 +6,7 @@
 //! - [`read_request`] gives what all bytes say (`outcome`): the first error in its order, but that of the three
 //!   errors of a head any whose cause holds may come. It takes a front of them, at most 73728 bytes. It makes no read
 //!   once what was taken decides, and asks for no more than the missing bytes of a body. A failed read is counted,
-//!   and nothing else (`took`).
+//!   and nothing else (`took`). A statement is asked by a head alone. Months and rates are within their bounds (`within`).
 //! - [`heads_decide`]: where a head stands the bytes say one thing. [`addresses_are_dotted`]: an address is four
 //!   plain numbers joined by dots.
 //! - [`answer`], [`edge_answer`] and [`memory_answer`] are exactly the status line, the headers and the JSON text,
@@ -26,6 +26,7 @@ mod fields;
 mod head;
 mod headers;
 mod laws;
+mod months;
 mod offers;
 mod order;
 mod pieces;
@@ -34,6 +35,7 @@ mod replies;
 mod request;
 mod routes;
 mod sending;
+mod statements;
 mod texts;
 mod wish;
 

@@ -1,10 +1,12 @@
 // Refusals, as the JSON of their answers.
-ghost use Rattle.std.specs.Prelude.{◌≡◌, IfOk, string_bytes};
+ghost use Rattle.std.specs.Prelude.{◌≡◌, IfOk};
 ghost use Rattle.serde_json.specs.Data.{object};
 ghost use Rattle.serde_json.specs.View.{view};
-ghost use Rattle.http_edge.specs.Refusals.{refused, with_number, with_text, too_few_data, refusal_data, month_text, table_text};
+ghost use Rattle.http_edge.specs.Refusals.{refused, with_number, with_text, too_few_data, refusal_data, table_text};
+ghost use Rattle.month_text.specs.MonthText.{month_text};
 
 use machine_calls::{Refusal, TableName};
+use month_text::text_of_month;
 use sat_base::Month;
 use serde_json::{Value, json};
 use std::alloc::{AllocError, Global};
@@ -146,19 +148,6 @@ fn too_few_value(alloc: Global, have: u8, need: u8) -> Result<Value, AllocError>
     ensures { IfOk result (λ v. view v ≡ too_few_data have need) }
 {
     json!(in alloc; {"error": "too-few", "have": have, "need": need, "number": 15u8})
-}
-
-// A month as YYYY-MM.
-pub(crate) fn text_of_month(alloc: Global, month: Month) -> Result<String, AllocError>
-    ensures { IfOk result (λ text. string_bytes text ≡ month_text month.0) }
-{
-    let year = month.0 / 12;
-    let place = month.0 % 12 + 1;
-    if place < 10 {
-        format!(in alloc; "{year}-0{place}")
-    } else {
-        format!(in alloc; "{year}-{place}")
-    }
 }
 
 fn table_name(table: TableName) -> &'static str

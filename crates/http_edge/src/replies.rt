@@ -3,12 +3,14 @@ ghost use Rattle.std.specs.Prelude.{◌≡◌, true, IfOk, string_bytes};
 ghost use Rattle.hex.specs.Hex.{encode_lower};
 ghost use Rattle.serde_json.specs.View.{view};
 ghost use Rattle.machine_calls.specs.Replies.{is_sayable};
-ghost use Rattle.http_edge.specs.Refusals.{month_text};
+ghost use Rattle.month_text.specs.MonthText.{month_text};
 ghost use Rattle.http_edge.specs.Answers.{error_data, result_data, amount_data, closed_data, rates_data, segment_data, node_data, customer_data, done_data, reply_data};
 
 use crate::offers::offer_value;
-use crate::refusals::{refusal_value, text_of_month};
+use crate::refusals::refusal_value;
+use crate::statements::statement_value;
 use machine_calls::Reply;
+use month_text::text_of_month;
 use order_limits::Keys;
 use sat_base::{Done, Month};
 use serde_json::{Value, json};
@@ -24,6 +26,7 @@ pub(crate) fn reply_value(alloc: Global, keys: &Keys, reply: &Reply) -> Result<V
         Reply::Settled { amount } => amount_value(alloc, *amount, "settled"),
         Reply::Again { amount } => amount_value(alloc, *amount, "again"),
         Reply::FreeSet => result_value(alloc, "set"),
+        Reply::Statement(statement) => statement_value(alloc, statement),
         Reply::Closed { month, fresh } => closed_value(alloc, *month, *fresh),
         Reply::Stopping => result_value(alloc, "stopping"),
         Reply::Exiting { .. } => result_value(alloc, "exiting"),
@@ -31,8 +34,7 @@ pub(crate) fn reply_value(alloc: Global, keys: &Keys, reply: &Reply) -> Result<V
         Reply::Refused(refusal) => refusal_value(alloc, refusal),
         Reply::StoreFault { .. } => error_value(alloc, "store"),
         Reply::NoMemory => error_value(alloc, "memory"),
-        Reply::Statement(_)
-        | Reply::AuditPlanned { .. }
+        Reply::AuditPlanned { .. }
         | Reply::AuditEnded { .. }
         | Reply::RecheckPlanned { .. }
         | Reply::RecheckEnded { .. }

@@ -1,5 +1,5 @@
 // One request of a connection.
-ghost use Rattle.std.specs.Prelude.{◌≡◌, ◌≤◌, ℕ, List, ◌++◌, length, drop, Some};
+ghost use Rattle.std.specs.Prelude.{◌≡◌, ◌≤◌, ℕ, List, ◌++◌, length, drop, Some, IfOk};
 ghost use Rattle.httparse.specs.Grammar.{RequestHead};
 ghost use Rattle.httparse.specs.Spans.{IsRequestAt, IsRequestWithin};
 ghost use Rattle.sat_base.specs.Streams.{Took};
@@ -7,6 +7,7 @@ ghost use Rattle.http_edge.specs.Demands.{max_body};
 ghost use Rattle.http_edge.specs.Fetches.{MayReadBody};
 ghost use Rattle.http_edge.specs.Heads.{max_head, max_lines};
 ghost use Rattle.http_edge.specs.Requests.{Outcome, BehindHead, IsBodyOutcome, MayRead, MayReadBehind, max_request, unread_as, failed_request};
+ghost use Rattle.http_edge.specs.Wishes.{IsRouteWithin, IsWishWithin};
 
 use crate::bounds::{MAX_HEAD, MAX_LINES};
 use crate::demand::{Demand, demand_of};
@@ -22,9 +23,11 @@ use std::alloc::Global;
 
 /// Reads one request: a head of at most 8192 bytes and 64 header lines (RFC 9112), and then just the rest of
 /// its body (RFC 8259), of at most 65536 bytes. Where the source tells its bytes, the answer is what all bytes
-/// that were left say. Each read was made while the bytes so far didn't decide, or for missing bytes of a body.
+/// that were left say. Each read was made while the bytes so far didn't decide, or for missing bytes of a body. Months and
+/// rates of a wish are such as records have.
 pub fn read_request<S: Source>(alloc: Global, source: &mut S, keys: &Keys) -> Result<Wish, ReadErr>
     ensures outcome { (all : List ℕ) → (S.about source.old).left ≡ Some all → Outcome keys.now all result }
+    ensures within { IfOk result IsWishWithin }
     ensures took { (bytes : List ℕ) × Took (MayRead keys.now) bytes 1 (failed_request result)
         (S.about source.old) (S.about source.new) × (length bytes ≤ max_request) }
 {
@@ -46,6 +49,7 @@ fn read_into<S: Source>(
     requires size { length buf.now ≡ max_head }
     requires lines { length headers.now ≡ max_lines }
     ensures outcome { (all : List ℕ) → (S.about source.old).left ≡ Some all → Outcome keys.now all result }
+    ensures within { IfOk result IsWishWithin }
     ensures took { (bytes : List ℕ) × Took (MayRead keys.now) bytes 1 (failed_request result)
         (S.about source.old) (S.about source.new) × (length bytes ≤ max_request) }
 {
@@ -71,12 +75,14 @@ fn behind_head<S: Source>(
     requires { IsRequestWithin read.now headers.now spans }
     ensures outcome { (left : List ℕ) → (S.about source.old).left ≡ Some left → (h : RequestHead)
         → IsRequestAt read.now headers.now spans h → BehindHead keys.now h (drop spans.len read.now ++ left) result }
+    ensures within { IfOk result IsWishWithin }
     ensures took { (h : RequestHead) → IsRequestAt read.now headers.now spans h
         → (bytes : List ℕ) × Took (λ taken asked. MayReadBehind keys.now h (drop spans.len read.now ++ taken) asked) bytes 1
         (failed_request result) (S.about source.old) (S.about source.new) × (length bytes ≤ max_body) }
 {
     match demand_of(keys, read, headers, spans) {
         Demand::Refused(e) => Err(ReadErr::Edge(e)),
+        Demand::Statement(node, month) => Ok(Wish::Statement { node, month }),
         Demand::Body(route, size) => with_body(alloc, source, route, &read[spans.len..], size),
     }
 }
@@ -89,8 +95,10 @@ fn with_body<S: Source>(
     read: &[u8],
     size: usize,
 ) -> Result<Wish, ReadErr>
-    requires { size ≤ max_body }
+    requires size { size ≤ max_body }
+    requires route { IsRouteWithin route }
     ensures outcome { (left : List ℕ) → (S.about source.old).left ≡ Some left → IsBodyOutcome route size (read.now ++ left) result }
+    ensures within { IfOk result IsWishWithin }
     ensures took { (bytes : List ℕ) × Took (MayReadBody size read.now) bytes 1 (failed_request result)
         (S.about source.old) (S.about source.new) × (length bytes ≤ max_body) }
 {

@@ -1,10 +1,12 @@
 // The routes of the paths. A number in a path is one to twenty digits, with a value that its type has.
 ghost use Rattle.std.specs.Prelude.{◌≡◌, ◌≤◌, IfSome, IfNone, option_map};
 ghost use Rattle.http_edge.specs.Paths.{IsPath};
-ghost use Rattle.http_edge.specs.RouteSteps.{route_at, customer_at, segment_at, node_at, operator_at, numbered_of};
+ghost use Rattle.http_edge.specs.RouteSteps.{route_at, customer_at, segment_at, node_at, statement_at, operator_at, numbered_of};
+ghost use Rattle.http_edge.specs.Wishes.{IsRouteWithin};
 ghost use Rattle.http_edge.specs.declared.routes.Route.{Route};
 
-use sat_base::{CustomerId, NodeId, SegId, cut, number};
+use month_text::month_of_text;
+use sat_base::{CustomerId, Month, NodeId, SegId, cut, number};
 
 /// What a path names.
 #[derive(Clone, Copy, Debug, PartialEq, Eq)]
@@ -30,8 +32,17 @@ pub(crate) enum Route {
     SetFree {
         node: NodeId,
     },
+    Exit {
+        node: NodeId,
+    },
+    Statement {
+        node: NodeId,
+        month: Month,
+    },
     AddNode,
     AddCustomer,
+    CloseMonth,
+    SetRates,
     Stop,
 }
 
@@ -39,12 +50,14 @@ pub(crate) enum Route {
 pub(crate) fn route_of(path: &[u8]) -> Option<Route>
     ensures found { IfSome result (λ r. IsPath r path.now) }
     ensures none { IfNone result ((r : Route) → IsPath r path.now → ⊥) }
+    ensures within { IfSome result IsRouteWithin }
 {
     find_route(path)
 }
 
 fn find_route(path: &[u8]) -> Option<Route>
-    ensures { result ≡ route_at path.now }
+    ensures route { result ≡ route_at path.now }
+    ensures within { IfSome result IsRouteWithin }
 {
     if let Some(rest) = path.strip_prefix(b"/c/") {
         return customer_route(rest);
@@ -68,7 +81,8 @@ fn numbered(text: &[u8], most: u64) -> Option<(u64, &[u8])>
 }
 
 fn customer_route(rest: &[u8]) -> Option<Route>
-    ensures { result ≡ customer_at rest.now }
+    ensures route { result ≡ customer_at rest.now }
+    ensures within { IfSome result IsRouteWithin }
 {
     let (customer, word) = numbered(rest, 4_294_967_295)?;
     if word == b"segments".as_slice() {
@@ -83,7 +97,8 @@ fn customer_route(rest: &[u8]) -> Option<Route>
 }
 
 fn segment_route(customer: CustomerId, rest: &[u8]) -> Option<Route>
-    ensures { result ≡ segment_at customer.0 rest.now }
+    ensures route { result ≡ segment_at customer.0 rest.now }
+    ensures within { IfSome result IsRouteWithin }
 {
     let (segment, word) = numbered(rest, u64::MAX)?;
     let segment = SegId(segment);
@@ -99,7 +114,8 @@ fn segment_route(customer: CustomerId, rest: &[u8]) -> Option<Route>
 }
 
 fn node_route(rest: &[u8]) -> Option<Route>
-    ensures { result ≡ node_at rest.now }
+    ensures route { result ≡ node_at rest.now }
+    ensures within { IfSome result IsRouteWithin }
 {
     let (node, word) = numbered(rest, 4_294_967_295)?;
     let node = NodeId(node as u32);
@@ -107,18 +123,36 @@ fn node_route(rest: &[u8]) -> Option<Route>
         Some(Route::Settle { node })
     } else if word == b"free".as_slice() {
         Some(Route::SetFree { node })
+    } else if word == b"exit".as_slice() {
+        Some(Route::Exit { node })
     } else {
-        None
+        statement_route(node, word)
     }
 }
 
+fn statement_route(node: NodeId, word: &[u8]) -> Option<Route>
+    ensures route { result ≡ statement_at node.0 word.now }
+    ensures within { IfSome result IsRouteWithin }
+{
+    let month = match word.strip_prefix(b"statement/") {
+        Some(text) => month_of_text(text)?,
+        None => return None,
+    };
+    Some(Route::Statement { node, month })
+}
+
 fn operator_route(path: &[u8]) -> Option<Route>
-    ensures { result ≡ operator_at path.now }
+    ensures route { result ≡ operator_at path.now }
+    ensures within { IfSome result IsRouteWithin }
 {
     if path == b"/op/nodes".as_slice() {
         Some(Route::AddNode)
     } else if path == b"/op/customers".as_slice() {
         Some(Route::AddCustomer)
+    } else if path == b"/op/close".as_slice() {
+        Some(Route::CloseMonth)
+    } else if path == b"/op/rates".as_slice() {
+        Some(Route::SetRates)
     } else if path == b"/op/stop".as_slice() {
         Some(Route::Stop)
     } else {

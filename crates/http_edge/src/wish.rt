@@ -1,5 +1,5 @@
 // What a request asks, and why none is asked.
-use sat_base::{Bytes, CustomerId, Indexes, NodeId, SegId};
+use sat_base::{Bytes, CustomerId, Indexes, Month, NodeId, Rates, SegId};
 
 /// What a request asks of the machine: a call without its moment and its random words.
 #[derive(Debug, PartialEq, Eq, Drop)]
@@ -50,6 +50,24 @@ pub enum Wish {
         node: NodeId,
         free: u64,
     },
+    /// A node asks to leave.
+    Exit {
+        node: NodeId,
+    },
+    /// A node asks what its operator is paid for a month.
+    Statement {
+        node: NodeId,
+        month: Month,
+    },
+    /// The operator closes a month.
+    CloseMonth {
+        month: Month,
+    },
+    /// The operator sets what is paid from a month on.
+    SetRates {
+        month: Month,
+        rates: Rates,
+    },
     /// The operator stops the machine.
     Stop,
 }
@@ -83,7 +101,8 @@ pub enum EdgeErr {
     /// The body isn't JSON.
     Json,
     /// A field of the body is wrong or missing. Its place is 1 for `request`, 2 for `len`, 3 for `pieces`,
-    /// 4 for `order`, 5 for `free`, 6 for `addr`, 7 for `port`, 8 for `month`.
+    /// 4 for `order`, 5 for `free`, 6 for `addr`, 7 for `port`, 8 for `month`, 9 for `get`, 10 for `audit`,
+    /// 11 for `repair`, 12 for `storage`.
     Field { place: u8 },
     /// Memory was wanting.
     NoMemory,

@@ -19,16 +19,18 @@ is_request (calls.PlanRecheck now) = false
 is_request (calls.EndRecheck now plan checked) = false
 is_request (calls.PlanRepair now words) = false
 is_request (calls.EndRepair now outcome) = false
+is_request (calls.TallyHour now) = false
 is_request (calls.PlanExit now words) = false
 is_request (calls.EndExit now outcome) = false
 is_request _ = true
 
--- a reply to what a customer, a node or the operator can ask so far; the others are to what the satellite asks on its own account, or to calls that are still to come
+-- a reply to what a customer, a node or the operator can ask; the others are to what the satellite asks on its own account
 abbrev pub is_told : Reply → Bool
 is_told (replies.Done done) = true
 is_told (replies.Settled amount) = true
 is_told (replies.Again amount) = true
 is_told replies.FreeSet = true
+is_told (replies.Statement statement) = true
 is_told (replies.Closed month fresh) = true
 is_told replies.Stopping = true
 is_told (replies.Exiting node) = true

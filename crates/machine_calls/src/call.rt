@@ -1,9 +1,9 @@
 use audit_core::{Checked, Judged, RecheckPlan};
 use repair_core::RepairOutcome;
-use sat_base::{Bytes, CustomerId, Indexes, Moment, NodeId, SegId, Words64};
+use sat_base::{Bytes, CustomerId, Indexes, Moment, Month, NodeId, Rates, SegId, Words64};
 
 /// What the machine is asked. `now` is the moment that its caller's clock gave; the machine takes no moment that is
-/// earlier than one it has taken.
+/// earlier than one it has taken. What changes nothing has none.
 #[derive(Debug, Drop)]
 pub enum Call {
     /// The operator adds a node, by its IPv4 address and the bytes that it says are free.
@@ -61,6 +61,11 @@ pub enum Call {
         node: NodeId,
         free: u64,
     },
+    /// A node asks what it is paid for a month that is closed.
+    Statement {
+        node: NodeId,
+        month: Month,
+    },
     /// An audit is to be planned. There are 2 random words.
     PlanAudit {
         now: Moment,
@@ -91,6 +96,15 @@ pub enum Call {
         now: Moment,
         outcome: RepairOutcome,
     },
+    /// The bytes that nodes keep are to be counted for the hour.
+    TallyHour {
+        now: Moment,
+    },
+    /// The operator closes a month, or one that is closed again.
+    CloseMonth {
+        now: Moment,
+        month: Month,
+    },
     /// A node asks to leave.
     Exit {
         now: Moment,
@@ -105,6 +119,12 @@ pub enum Call {
     EndExit {
         now: Moment,
         outcome: RepairOutcome,
+    },
+    /// The operator sets the rates from a month on that hasn't begun.
+    SetRates {
+        now: Moment,
+        month: Month,
+        rates: Rates,
     },
     /// The operator stops the machine.
     Stop,

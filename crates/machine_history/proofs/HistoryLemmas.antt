@@ -1,5 +1,5 @@
 -- The rules throughout a history, and how segments grow in it.
-use Rattle.std.proofs.Common.{◌≡◌, ℕ, ◌<◌, Bool, true, false, List, [], ◌∷◌, ◌++◌, Some, refl, sym, ap, ◌∙◌, arith}
+use Rattle.std.proofs.Common.{◌≡◌, ℕ, ◌<◌, ◌≤◌, Bool, true, false, List, [], ◌∷◌, ◌++◌, Some, refl, sym, ap, subst, ◌∙◌, arith}
 use Rattle.std.specs.Prelude.{if◌then◌else◌}
 use Rattle.std.proofs.lemmas.Bool.Decides.{nat_tests}
 use Rattle.segment_core.specs.Record.{SegmentRecord}
@@ -7,26 +7,38 @@ use Rattle.machine_step.specs.Tables.{Tables, segment_at}
 use Rattle.machine_calls.specs.Replies.{is_lost}
 use Rattle.machine_step.specs.Step.{after}
 use Rattle.machine_step.specs.Bounds.{IsValid}
+use Rattle.machine_step.specs.Closed.{StaysClosed}
 use Rattle.machine_step.proofs.Steady.{grows_self, grows_trans}
+use Rattle.machine_step.proofs.Paid.{closed_self}
 use Rattle.machine_step.proofs.Validity.{Follows}
 use Rattle.machine_step.proofs.Fits.{found_below}
 use Rattle.machine_step.proofs.StepLemmas.{follows_step}
 use Rattle.machine_history.specs.History.{Said, taken, replay, IsRight, IsLegal}
 
+closed_then : (a b c : Tables) → a.marks.month.0 ≤ b.marks.month.0 → StaysClosed a b → StaysClosed b c → StaysClosed a c
+closed_then a b c le p q = record {
+  sums = λ node month lt. q.sums node month (omega (arith, lt, le)) ∙ p.sums node month lt;
+  statements = λ place s at. q.statements place s (p.statements place s at);
+}
+
 follows_said : (t : Tables) (said : Said) → IsValid t → IsRight t said → Follows t (taken t said)
 follows_said t said v right = go (is_lost said.reply)
   where
     go : (b : Bool) → Follows t (if b then t else after t said.call)
-    go true = record { valid = v; grows = grows_self t.marks.segment t }
+    go true = record { valid = v; grows = grows_self t.marks.segment t; closed = closed_self t }
     go false = follows_step t said.call v right.formed
 
 pub follows_all : (h : List Said) (t : Tables) → IsValid t → IsLegal t h → Follows t (replay t h)
-follows_all [] t v legal = record { valid = v; grows = grows_self t.marks.segment t }
+follows_all [] t v legal = record { valid = v; grows = grows_self t.marks.segment t; closed = closed_self t }
 follows_all (said ∷ h) t v legal =
     let first = follows_said t said v legal.0 in
     let rest = follows_all h (taken t said) first.valid legal.1 in
     let later = first.grows.later in
-    record { valid = rest.valid; grows = grows_trans t.marks.segment (taken t said).marks.segment t (taken t said) (replay (taken t said) h) later.segment first.grows rest.grows }
+    record {
+      valid = rest.valid;
+      grows = grows_trans t.marks.segment (taken t said).marks.segment t (taken t said) (replay (taken t said) h) later.segment first.grows rest.grows;
+      closed = closed_then t (taken t said) (replay (taken t said) h) later.month first.closed rest.closed;
+    }
 
 pub replay-append : (h more : List Said) (t : Tables) → replay t (h ++ more) ≡ replay (replay t h) more
 replay-append [] more t = refl
@@ -58,3 +70,9 @@ equal_law t h more id a b v legal = equal_versions t h more v legal id a b
 
 pub valid_law : (t : Tables) (h : List Said) → IsValid t → IsLegal t h → IsValid (replay t h)
 valid_law t h v legal = (follows_all h t v legal).valid
+
+pub closed_law : (t : Tables) (h more : List Said) → IsValid t → IsLegal t (h ++ more) → StaysClosed (replay t h) (replay t (h ++ more))
+closed_law t h more v legal =
+    let parts = legal-append h more t legal in
+    let later = (follows_all more (replay t h) (follows_all h t v parts.0).valid parts.1).closed in
+    subst (λ (x : Tables). StaysClosed (replay t h) x) (sym (replay-append h more t)) later

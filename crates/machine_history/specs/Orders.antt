@@ -1,5 +1,5 @@
 -- Orders that a history settled.
-use Rattle.std.specs.Prelude.{◌≡◌, ℕ, ◌<◌, ◌≤◌, List, None, Some, slice_get, slice_index_or}
+use Rattle.std.specs.Prelude.{◌≡◌, ℕ, ◌<◌, ◌≤◌, List, None, Some, slice_get}
 use Rattle.sat_base.specs.declared.ids.NodeId.{NodeId}
 use Rattle.order_limits.specs.Order.{IsGoodOrder}
 use Rattle.order_limits.specs.declared.limit.Order.{Order}
@@ -10,13 +10,10 @@ use Rattle.machine_calls.specs.declared.call.Call.TheVariants as calls
 use Rattle.machine_calls.specs.declared.reply.Reply.{Reply}
 use Rattle.machine_calls.specs.declared.reply.Reply.TheVariants as replies
 use Rattle.machine_step.specs.Tables.{Tables}
+pub use Rattle.machine_step.specs.Step.{HasBytes}
 use Rattle.machine_history.specs.History.{Said}
 
--- an order that is presented is of bytes
-abbrev pub HasBytes : Call → Type 0
-HasBytes (calls.Settle now node bytes) = (i : ℕ) → slice_index_or bytes i 0 < 256
-HasBytes _ = Unit {0}
-
+-- each order that is presented is of bytes
 abbrev pub AreOfBytes : List Said → Type 0
 AreOfBytes h = (i : ℕ) (said : Said) → slice_get h i ≡ Some said → HasBytes said.call
 

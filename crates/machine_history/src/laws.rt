@@ -7,6 +7,7 @@ ghost use Rattle.machine_calls.specs.declared.reply.Reply.TheVariants as replies
 ghost use Rattle.machine_step.specs.Tables.{Tables, segment_at};
 ghost use Rattle.machine_step.specs.Outcome.{unchanged};
 ghost use Rattle.machine_step.specs.Bounds.{IsValid};
+ghost use Rattle.machine_step.specs.Closed.{StaysClosed};
 ghost use Rattle.machine_step.specs.Step.{step, after};
 ghost use Rattle.machine_history.specs.Repeats.{Request, request_of, after_all, AreQuiet};
 ghost use Rattle.machine_history.specs.History.{Said, replay, IsLegal};
@@ -34,6 +35,13 @@ pub fn equal_versions_are_equal()
         → segment_at (replay t h).segments id ≡ Some a
         → segment_at (replay t (h ++ more)).segments id ≡ Some b
         → b.version ≡ a.version → b ≡ a }
+{}
+
+/// Closed months stay closed: from any moment of a history on, neither the sums of the months that are closed then nor
+/// their statements change.
+pub fn closed_months_stay()
+    ensures { (t : Tables) (h more : List Said) → IsValid t → IsLegal t (h ++ more)
+        → StaysClosed (replay t h) (replay t (h ++ more)) }
 {}
 
 /// Each order settles once: where a call was answered as settled, its bytes are a good order of the node that presented

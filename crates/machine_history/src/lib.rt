@@ -10,6 +10,7 @@
 //!   of its serial and node.
 //! - [`equal_versions_are_equal`]: a segment that is found at two moments in one version is the same record, so its
 //!   pieces are the same.
+//! - [`closed_months_stay`]: neither the sums of a closed month nor its statements change any more.
 //!
 //! Not promised here: that what a program answered is a history. That is for what runs the machine to say.
 #![tactic(auto)]
@@ -17,6 +18,6 @@
 mod laws;
 
 pub use laws::{
-    an_equal_request_acts_once, each_history_keeps_the_rules, each_order_settles_once,
-    equal_versions_are_equal,
+    an_equal_request_acts_once, closed_months_stay, each_history_keeps_the_rules,
+    each_order_settles_once, equal_versions_are_equal,
 };

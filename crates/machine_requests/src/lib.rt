@@ -7,12 +7,15 @@ mod add_customer;
 mod add_node;
 mod answers;
 mod begin;
+mod close_month;
 mod commit;
 mod delete;
 mod exit;
 mod get;
 mod requests;
 mod set_free;
+mod set_rates;
 mod settle;
+mod statement;
 
 pub use requests::request_case;

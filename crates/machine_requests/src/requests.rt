@@ -9,12 +9,15 @@ ghost use Rattle.machine_store.specs.Store.{tables_of, GoesByTables};
 use crate::add_customer::add_customer;
 use crate::add_node::add_node;
 use crate::begin::begin;
+use crate::close_month::close_month;
 use crate::commit::commit;
 use crate::delete::delete;
 use crate::exit::exit;
 use crate::get::get;
 use crate::set_free::set_free;
+use crate::set_rates::set_rates;
 use crate::settle::settle;
+use crate::statement::statement;
 use machine_calls::{Call, Reply};
 use machine_store::{Prepared, Store, asking, risen, unchanged};
 use sat_base::{CustomerId, NoMemory};
@@ -93,6 +96,11 @@ pub fn request_case(alloc: Global, store: &Store, call: &Call) -> Result<Prepare
         }
         Call::SetFree { now, node, free } => {
             set_free(alloc, store, risen(store, *now), *node, *free)
+        }
+        Call::Statement { node, month } => Ok(statement(alloc, store, *node, *month)),
+        Call::CloseMonth { now, month } => { close_month(alloc, store, risen(store, *now), *month) }
+        Call::SetRates { now, month, rates } => {
+            set_rates(alloc, store, risen(store, *now), *month, *rates)
         }
         Call::Exit { now, node } => exit(alloc, store, risen(store, *now), *node),
         Call::Stop => Ok(unchanged(alloc, Reply::Stopping)),

@@ -1,4 +1,4 @@
--- Each change that fits keeps what holds, and the tables grow by it.
+-- Each change that fits keeps what holds.
 use Rattle.std.proofs.Common.{◌≡◌, ℕ, ◌≤◌, Bool, true, false, List, [], ◌∷◌, Option, Some, None, IfSome, refl, sym, subst, arith}
 use Rattle.std.specs.Prelude.{if◌then◌else◌, nat_lt, ◌==◌}
 use Rattle.std.proofs.lemmas.Bool.Decides.{nat_tests}
@@ -9,9 +9,10 @@ use Rattle.sat_base.specs.declared.records.Key.TheVariants as keys
 use Rattle.sat_base.specs.declared.settings.Marks.{Marks}
 use Rattle.sat_base.specs.declared.settings.Customer.{Customer}
 use Rattle.sat_base.specs.declared.requests.Kept.{Kept}
-use Rattle.sat_base.specs.Limits.{IsMonthWithin, AreMarksWithin}
-use Rattle.sat_base.specs.Ranks.{containment_rank, customer_rank, kept_rank}
-use Rattle.rows.specs.Rows.{without}
+use Rattle.sat_base.specs.declared.rates.Tariff.{Tariff}
+use Rattle.sat_base.specs.Limits.{AreMarksWithin, IsTariffWithin}
+use Rattle.sat_base.specs.Ranks.{containment_rank, customer_rank, kept_rank, tariff_rank}
+use Rattle.rows.specs.Rows.{Each, without, IsRising}
 use Rattle.rows.proofs.Rising.{rising-without}
 use Rattle.rows.specs.Slots.{with_row}
 use Rattle.node_registry.specs.declared.node.Node.{Node}
@@ -20,21 +21,27 @@ use Rattle.node_registry.specs.Registry.{node_rank, node_at}
 use Rattle.segment_core.specs.Record.{SegmentRecord, segment_rank}
 use Rattle.settlement.specs.declared.row.SettledRow.{SettledRow}
 use Rattle.settlement.specs.Rows.{key}
+use Rattle.tally_payout.specs.declared.amounts.Tally.{Tally}
+use Rattle.tally_payout.specs.declared.amounts.Statement.{Statement}
+use Rattle.tally_payout.specs.Ranks.{tally_rank, statement_rank}
 use Rattle.audit_core.specs.declared.plan.AuditPlan.{AuditPlan}
 use Rattle.audit_core.specs.declared.rechecking.RecheckPlan.{RecheckPlan}
 use Rattle.repair_core.specs.declared.plan.RepairPlan.{RepairPlan}
 use Rattle.repair_core.specs.declared.plan.ExitPlan.{ExitPlan}
 use Rattle.machine_calls.specs.declared.change.RecChange.{RecChange}
 use Rattle.machine_calls.specs.declared.change.RecChange.TheVariants as changes
-use Rattle.machine_step.specs.Tables.{Tables, segment_at, closed, removed, changed, all_changed}
-use Rattle.machine_step.specs.Rules.{first_bad, are_sound_marks, breaks_node, breaks_customer, is_sound_segment, is_sound_settled, is_sound_kept}
+use Rattle.machine_step.specs.Tables.{Tables, segment_at, closed, removed, changed}
+use Rattle.machine_step.specs.Rules.{first_bad, are_sound_marks, breaks_node, breaks_customer, is_sound_segment, is_sound_settled, is_sound_tally, is_sound_kept, bad_tariff}
 use Rattle.machine_step.specs.PlanRules.{is_owed, is_exited, is_sound_left, is_accounted}
-use Rattle.machine_step.proofs.GrowthLemmas.{AreLater, marks-later, Extends, extends_self, extends_next, extends_set, customer_more, nodes-later, nodes-next, nodes-set, none_next, customers-later, customers-next, IsFine, fine, Grows, segment-later, settled-later, kept-later}
+use Rattle.machine_step.proofs.GrowthLemmas.{AreLater, marks-later, Extends, extends_self, extends_next, extends_set, customer_more, nodes-later, nodes-next, nodes-set, none_next, customers-later, customers-next, IsFine, fine, Grows, segment-later, settled-later, tally-later, kept-later}
 use Rattle.machine_step.proofs.SegmentLemmas.{SegmentsGrow, segments_self, segments_less}
 use Rattle.machine_step.proofs.PlanLemmas.{owed-later, audit-later, recheck-later, repair-later, exit-later}
-use Rattle.machine_step.proofs.RowLemmas.{row_at-with_row, found_rank, rising-with_row, all-with_row, all-without, all-found, all-weaker}
-use Rattle.machine_step.proofs.Hold.{SegmentsHold, SettledHold, KeptHold, segments_put, fewer_segments, kept_put, AuditHolds, RecheckHolds, RepairHolds, ExitHolds, ContainmentsHold, LeftHold}
-use Rattle.machine_step.proofs.Steady.{IsSteady, MarksFit, NodeFits, CustomerFits, SegmentFits, SettledFits, KeptFits, ContainmentFits, FitsIn, AllFit, GrowsTo, later_self, grows_self, grows_trans}
+use Rattle.machine_step.proofs.RowLemmas.{row_at-with_row, found_rank, rising-with_row, all-with_row, all-without, each-with_row, all-found, all-weaker}
+use Rattle.month_pay.proofs.LastMonth.{month_most}
+use Rattle.machine_step.specs.Bounds.{IsSettledWithin}
+use Rattle.machine_step.proofs.TariffLemmas.{tariff_put}
+use Rattle.machine_step.proofs.Hold.{SegmentsHold, SettledHold, TalliesHold, KeptHold, segments_put, fewer_segments, kept_put, AuditHolds, RecheckHolds, RepairHolds, ExitHolds, ContainmentsHold, LeftHold}
+use Rattle.machine_step.proofs.Steady.{IsSteady, MarksFit, NodeFits, CustomerFits, SegmentFits, SettledFits, TallyFits, TariffFits, KeptFits, ContainmentFits, FitsIn, later_self}
 use Rattle.machine_step.proofs.Steady.NodeFits.{next_node, update}
 
 pub some_map : {X : Type 0} (P Q : X → Type 0) (found : Option X) → ((x : X) → P x → Q x) → IfSome found P → IfSome found Q
@@ -83,9 +90,13 @@ module _ (from : ℕ) (t : Tables) (s : IsSteady from t) where
             all = all-weaker (is_sound_settled t.marks t.nodes) (is_sound_settled marks nodes) (settled-later t.setup t.marks marks t.nodes nodes t.customers customers grows) t.settled s.settled.all;
             few = s.settled.few;
             rising = s.settled.rising;
+            within = s.settled.within;
           };
-          tallies = s.tallies;
-          statements = s.statements;
+          tallies = record {
+            all = all-weaker (is_sound_tally t.marks t.nodes) (is_sound_tally marks nodes) (tally-later t.setup t.marks marks t.nodes nodes t.customers customers grows) t.tallies s.tallies.all;
+            few = s.tallies.few;
+            rising = s.tallies.rising;
+          };
           kept = record {
             all = all-weaker (is_sound_kept t.marks t.nodes t.customers) (is_sound_kept marks nodes customers) (kept-later t.setup t.marks marks t.nodes nodes t.customers customers grows) t.kept s.kept.all;
             rising = s.kept.rising;
@@ -116,8 +127,8 @@ module _ (from : ℕ) (t : Tables) (s : IsSteady from t) where
       let later = fit.later in
       let grows : Grows t.marks marks t.nodes t.nodes t.customers t.customers = record { later = later; extends = extends_self t.nodes; stay = λ id h. h } in
       steady_context marks t.nodes t.customers grows t.segments t.left (segments_self from t.segments)
-      (marks-later t.setup t.marks marks later fit.segment fit.serial fit.plan s.marks)
-      (record { time = fit.time; month = subst (λ m. IsMonthWithin m.0) (sym later.month) s.marks_within.month; hour = subst (λ h. h.0 ≤ limits.LAST_HOUR) (sym later.hour) s.marks_within.hour })
+      (marks-later t.setup t.marks marks later fit.begun fit.hour fit.segment fit.serial fit.plan s.marks)
+      (record { time = fit.time; month = (omega (arith, s.marks_within.month.0, later.month), omega (arith, fit.begun, month_most marks.time fit.time)); hour = omega (arith, fit.hour, fit.time) })
       (nodes-later t.setup t.marks marks later.time t.nodes 0 s.nodes) (customers-later t.setup t.marks marks later.time t.customers 0 s.customers)
       (segments_grown marks t.nodes t.customers grows) (left_later marks later)
 
@@ -197,7 +208,6 @@ module _ (from : ℕ) (t : Tables) (s : IsSteady from t) where
     segments = s.segments;
     settled = settled_hold;
     tallies = s.tallies;
-    statements = s.statements;
     audit = audit_holds;
     recheck = recheck_holds;
     repair = repair_holds;
@@ -213,8 +223,45 @@ module _ (from : ℕ) (t : Tables) (s : IsSteady from t) where
   steady_settled : (row : SettledRow) → SettledFits t row → IsSteady from (record t { settled = with_row key t.settled row })
   steady_settled row fit =
       steady_own (with_row key t.settled row) t.audit t.recheck t.repair t.containments t.kept t.exit
-      (record { all = all-with_row key (is_sound_settled t.marks t.nodes) t.settled row s.settled.all fit.sound; few = fit.few; rising = rising-with_row key t.settled row s.settled.rising })
+      (record { all = all-with_row key (is_sound_settled t.marks t.nodes) t.settled row s.settled.all fit.sound; few = fit.few; rising = rising-with_row key t.settled row s.settled.rising; within = each-with_row key IsSettledWithin t.settled row s.settled.within fit.within })
       s.audit s.recheck s.repair s.containments s.kept s.exit
+
+  -- tallies, statements and tariffs
+  steady_pay : (tallies : List Tally) (statements : List Statement) (tariffs : List Tariff) → TalliesHold t.setup t.marks t.nodes tallies
+      → bad_tariff t.setup.first_month tariffs ≡ None → IsRising tariff_rank tariffs → Each IsTariffWithin tariffs → IsSteady from (record t { tallies = tallies; statements = statements; tariffs = tariffs })
+  steady_pay tallies statements tariffs tallies_hold tariffs_hold rising within = record {
+    setup = s.setup;
+    marks = s.marks;
+    marks_within = s.marks_within;
+    base = s.base;
+    nodes = s.nodes;
+    customers = s.customers;
+    segments = s.segments;
+    settled = s.settled;
+    tallies = tallies_hold;
+    audit = s.audit;
+    recheck = s.recheck;
+    repair = s.repair;
+    containments = s.containments;
+    kept = s.kept;
+    exit = s.exit;
+    left = s.left;
+    tariffs = tariffs_hold;
+    tariffs_rising = rising;
+    tariffs_within = within;
+  }
+
+  steady_tally : (tally : Tally) → TallyFits t tally → IsSteady from (record t { tallies = with_row tally_rank t.tallies tally })
+  steady_tally tally fit =
+      steady_pay (with_row tally_rank t.tallies tally) t.statements t.tariffs
+      (record { all = all-with_row tally_rank (is_sound_tally t.marks t.nodes) t.tallies tally s.tallies.all fit.sound; few = fit.few; rising = rising-with_row tally_rank t.tallies tally s.tallies.rising })
+      s.tariffs s.tariffs_rising s.tariffs_within
+
+  steady_tariff : (tariff : Tariff) → TariffFits t tariff → IsSteady from (record t { tariffs = with_row tariff_rank t.tariffs tariff })
+  steady_tariff tariff fit =
+      steady_pay t.tallies t.statements (with_row tariff_rank t.tariffs tariff) s.tallies
+      (tariff_put t.setup.first_month t.tariffs tariff fit.late fit.few s.tariffs) (rising-with_row tariff_rank t.tariffs tariff s.tariffs_rising)
+      (each-with_row tariff_rank IsTariffWithin t.tariffs tariff s.tariffs_within fit.within)
 
   steady_kept : (row : Kept) → KeptFits t row → IsSteady from (record t { kept = with_row kept_rank t.kept row })
   steady_kept row fit =
@@ -259,8 +306,8 @@ module _ (from : ℕ) (t : Tables) (s : IsSteady from t) where
   steady_changed (changes.Customer customer) fit = steady_customer customer fit
   steady_changed (changes.Segment segment) fit = steady_segment segment fit
   steady_changed (changes.SettledRow row) fit = steady_settled row fit
-  steady_changed (changes.Tally tally) fit = absurd fit
-  steady_changed (changes.Statement statement) fit = absurd fit
+  steady_changed (changes.Tally tally) fit = steady_tally tally fit
+  steady_changed (changes.Statement statement) fit = steady_pay t.tallies (with_row statement_rank t.statements statement) t.tariffs s.tallies s.tariffs s.tariffs_rising s.tariffs_within
   steady_changed (changes.AuditPlan plan) fit = steady_plans (Some plan) t.recheck t.repair t.exit fit s.recheck s.repair s.exit
   steady_changed (changes.RecheckPlan plan) fit = steady_plans t.audit (Some plan) t.repair t.exit s.audit fit s.repair s.exit
   steady_changed (changes.RepairPlan plan) fit = steady_plans t.audit t.recheck (Some plan) t.exit s.audit s.recheck fit s.exit
@@ -268,50 +315,7 @@ module _ (from : ℕ) (t : Tables) (s : IsSteady from t) where
   steady_changed (changes.Kept kept) fit = steady_kept kept fit
   steady_changed (changes.ExitPlan exit) fit = steady_plans t.audit t.recheck t.repair (Some exit) s.audit s.recheck s.repair fit
   steady_changed (changes.Left left) fit = absurd fit
-  steady_changed (changes.Tariff tariff) fit = absurd fit
+  steady_changed (changes.Tariff tariff) fit = steady_tariff tariff fit
   steady_changed (changes.Remove (keys.Segment id)) fit = steady_segments (without segment_rank t.segments id.0) (segments_less from t.segments id.0) (fewer_segments t.setup t.marks t.nodes t.customers t.segments id.0 s.segments)
   steady_changed (changes.Remove (keys.Plan kind)) fit = steady_closed kind
   steady_changed (changes.Remove (keys.Containment node)) fit = steady_released node.0
-
-  -- and the tables grow by it
-  grows_node : (node : Node) → NodeFits t node → Extends t.nodes (with_row node_rank t.nodes node)
-  grows_node node (next_node id room rated joined fresh) = extends_next t.nodes node (none_next t.setup t.marks t.nodes 0 node.id.0 s.nodes (omega (arith, id)))
-  grows_node node (update found there new) = extends_set t.nodes node found there new.addr
-
-  -- lists and plans that no other rule reads
-  grows_own : (settled : List SettledRow) (audit : Option AuditPlan) (recheck : Option RecheckPlan) (repair : Option RepairPlan) (containments : List Containment) (kept : List Kept) (exit : Option ExitPlan)
-      → GrowsTo from t (record t { settled = settled; audit = audit; recheck = recheck; repair = repair; containments = containments; kept = kept; exit = exit })
-  grows_own settled audit recheck repair containments kept exit = record { setup = refl; later = later_self t.marks; extends = extends_self t.nodes; stay = λ id h. h; segments = segments_self from t.segments }
-
-  pub grows_changed : (change : RecChange) → FitsIn from t change → GrowsTo from t (changed t change)
-  grows_changed (changes.Settings settings) fit = absurd fit
-  grows_changed (changes.Marks marks) fit = record { setup = refl; later = fit.later; extends = extends_self t.nodes; stay = λ id h. h; segments = segments_self from t.segments }
-  grows_changed (changes.Node node) fit = record { setup = refl; later = later_self t.marks; extends = grows_node node fit; stay = λ id h. h; segments = segments_self from t.segments }
-  grows_changed (changes.Customer customer) fit = record { setup = refl; later = later_self t.marks; extends = extends_self t.nodes; stay = customer_more t.customers customer; segments = segments_self from t.segments }
-  grows_changed (changes.Segment segment) fit = record { setup = refl; later = later_self t.marks; extends = extends_self t.nodes; stay = λ id h. h; segments = fit.grows }
-  grows_changed (changes.SettledRow row) fit = grows_own (with_row key t.settled row) t.audit t.recheck t.repair t.containments t.kept t.exit
-  grows_changed (changes.Tally tally) fit = absurd fit
-  grows_changed (changes.Statement statement) fit = absurd fit
-  grows_changed (changes.AuditPlan plan) fit = grows_own t.settled (Some plan) t.recheck t.repair t.containments t.kept t.exit
-  grows_changed (changes.RecheckPlan plan) fit = grows_own t.settled t.audit (Some plan) t.repair t.containments t.kept t.exit
-  grows_changed (changes.RepairPlan plan) fit = grows_own t.settled t.audit t.recheck (Some plan) t.containments t.kept t.exit
-  grows_changed (changes.Containment containment) fit = grows_own t.settled t.audit t.recheck t.repair (with_row containment_rank t.containments containment) t.kept t.exit
-  grows_changed (changes.Kept kept) fit = grows_own t.settled t.audit t.recheck t.repair t.containments (with_row kept_rank t.kept kept) t.exit
-  grows_changed (changes.ExitPlan exit) fit = grows_own t.settled t.audit t.recheck t.repair t.containments t.kept (Some exit)
-  grows_changed (changes.Left left) fit = absurd fit
-  grows_changed (changes.Tariff tariff) fit = absurd fit
-  grows_changed (changes.Remove (keys.Segment id)) fit = record { setup = refl; later = later_self t.marks; extends = extends_self t.nodes; stay = λ id h. h; segments = segments_less from t.segments id.0 }
-  grows_changed (changes.Remove (keys.Plan kind)) fit = grows_own t.settled (closed kinds.AUDIT_PLAN kind t.audit) (closed kinds.RECHECK_PLAN kind t.recheck) (closed kinds.REPAIR_PLAN kind t.repair) t.containments t.kept (closed kinds.EXIT_PLAN kind t.exit)
-  grows_changed (changes.Remove (keys.Containment node)) fit = grows_own t.settled t.audit t.recheck t.repair (without containment_rank t.containments node.0) t.kept t.exit
-
--- ---- all the changes of a step
-
-pub record Becomes (from : ℕ) (t t' : Tables) : Type 0 where
-  pub steady : IsSteady from t'
-  pub grows : GrowsTo from t t'
-
-pub all_become : (from : ℕ) (cs : List RecChange) (t : Tables) → IsSteady from t → AllFit from t cs → Becomes from t (all_changed t cs)
-all_become from [] t s fit = record { steady = s; grows = grows_self from t }
-all_become from (change ∷ cs) t s fit =
-    let rest = all_become from cs (changed t change) (steady_changed from t s change fit.0) fit.1 in
-    record { steady = rest.steady; grows = grows_trans from from t (changed t change) (all_changed (changed t change) cs) (omega arith) (grows_changed from t s change fit.0) rest.grows }

@@ -16,8 +16,9 @@ use Rattle.machine_step.specs.Bounds.{ArePlacesWithin, IsValid}
 use Rattle.machine_step.proofs.RowLemmas.{all-weaker}
 use Rattle.machine_step.proofs.PieceLemmas.{length-filtered, all-filtered, below-most}
 use Rattle.machine_step.proofs.GrowthLemmas.{segment-most}
+use Rattle.machine_step.proofs.MarkLemmas.{month-open, hour-most}
 use Rattle.machine_step.proofs.Steady.{MarksFit}
-use Rattle.machine_step.proofs.Fits.{After, fitting, fine_found, within_found, timed_fit}
+use Rattle.machine_step.proofs.Fits.{After, fitting_apart, fine_found, within_found, timed_fit}
 use Rattle.machine_step.proofs.RowLemmas.{rising-got}
 use Rattle.machine_step.specs.Writable.{IsPlanKind}
 use Rattle.sat_base.specs.declared.limits.TheConstants as limits
@@ -58,8 +59,10 @@ module _ (t : Tables) (v : IsValid t) (time : ℕ) (le : t.marks.time ≤ time) 
       let plan : t.marks.plan < 2 ^ 63 = grind (arith, nat_tests, number) in
       let serial : t.marks.serial < 2 ^ 63 = grind (arith, nat_tests, number) in
       record {
-        later = record { time = le; segment = omega arith; serial = omega arith; plan = omega arith; month = refl; hour = refl };
+        later = record { time = le; segment = omega arith; serial = omega arith; plan = omega arith; month = omega arith; hour = omega arith };
         time = lt;
+        begun = month-open t.setup t.marks time le v.rules.marks;
+        hour = hour-most t.setup t.marks time le v.rules.marks;
         segment = segment-most t.setup t.marks v.rules.marks;
         serial = omega arith;
         plan = omega arith;
@@ -74,4 +77,4 @@ module _ (t : Tables) (v : IsValid t) (time : ℕ) (le : t.marks.time ≤ time) 
 
   -- a plan is closed, and nothing else changes
   pub fit_superseded : (kind planned now : ℕ) → IsPlanKind kind → After t (superseded t time kind planned now)
-  fit_superseded kind planned now is = fitting t v (superseded t time kind planned now).changes (timed_fit t v time le lt, (is, tt))
+  fit_superseded kind planned now is = fitting_apart t v (superseded t time kind planned now) refl (timed_fit t v time le lt, (is, tt))

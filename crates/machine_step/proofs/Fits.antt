@@ -1,5 +1,5 @@
 -- What a call's changes are to meet, and what is known of the tables that they are made in.
-use Rattle.std.proofs.Common.{◌≡◌, ℕ, ◌<◌, ◌≤◌, ◌^◌, true, List, [], ◌∷◌, Option, Some, None, is_some, refl, sym, ap, ◌∙◌, arith}
+use Rattle.std.proofs.Common.{◌≡◌, ℕ, ◌<◌, ◌≤◌, ◌^◌, true, List, [], ◌∷◌, Option, Some, None, is_some, refl, sym, ap, subst, ◌∙◌, arith}
 use Rattle.std.specs.Prelude.{nat_lt}
 use Rattle.std.proofs.lemmas.Bool.Decides.{nat_tests}
 use Rattle.sat_base.specs.declared.ids.NodeId.{NodeId}
@@ -10,7 +10,10 @@ use Rattle.node_registry.specs.Registry.{node_at}
 use Rattle.segment_core.specs.Record.{SegmentRecord, segment_rank}
 use Rattle.placement.proofs.Picks.{Got}
 use Rattle.machine_calls.specs.declared.reply.Reply.{Reply}
-use Rattle.machine_step.specs.Tables.{Tables, segment_at, if_owned, owned_at, changed, all_changed}
+use Rattle.month_pay.specs.Ledger.{Ledger}
+use Rattle.month_pay.specs.Keeping.{SamePay}
+use Rattle.month_pay.proofs.Steps.{same_self}
+use Rattle.machine_step.specs.Tables.{Tables, ledger_of, segment_at, if_owned, owned_at, changed, all_changed}
 use Rattle.machine_step.specs.Writable.{IsWritable}
 use Rattle.machine_step.specs.Outcome.{Outcome, unchanged}
 use Rattle.machine_step.specs.Rules.{is_known}
@@ -23,12 +26,17 @@ use Rattle.machine_calls.specs.declared.change.RecChange.{RecChange}
 use Rattle.machine_calls.specs.declared.change.RecChange.TheVariants as changes
 use Rattle.machine_step.specs.Plans.{timed}
 use Rattle.machine_step.proofs.Steady.{MarksFit, FitsIn, AllFit, grows_self}
-use Rattle.machine_step.proofs.Changes.{Becomes, all_become, found_fine}
+use Rattle.machine_step.proofs.MarkLemmas.{month-open, hour-most}
+use Rattle.machine_step.proofs.Changes.{found_fine}
+use Rattle.machine_step.proofs.Becoming.{Becomes, all_become}
+use Rattle.machine_step.proofs.Paid.{IsPaid, paid_same}
 use Rattle.machine_step.proofs.Validity.{steady_of}
 
 -- what a step makes of the tables, before it is swept
-abbrev pub After : Tables → Outcome → Type 0
-After t o = Becomes t.marks.segment t (all_changed t o.changes) × Each IsWritable o.changes
+pub record After (t : Tables) (o : Outcome) : Type 0 where
+  pub becomes : Becomes t.marks.segment t (all_changed t o.changes)
+  pub paid : IsPaid t (all_changed t o.changes)
+  pub written : Each IsWritable o.changes
 
 -- what fits is what a store can be told
 fits_writable : (from : ℕ) (t : Tables) (change : RecChange) → FitsIn from t change → IsWritable change
@@ -58,10 +66,18 @@ all_writable from t (change ∷ cs) fit = (fits_writable from t change fit.0, al
 
 module _ (t : Tables) (v : IsValid t) where
   pub still : (answer : Reply) → After t (unchanged answer)
-  still answer = (record { steady = steady_of t v; grows = grows_self t.marks.segment t }, tt)
+  still answer = record { becomes = record { steady = steady_of t v; grows = grows_self t.marks.segment t }; paid = paid_same t v t (same_self (ledger_of t)); written = tt }
 
-  pub fitting : (cs : List RecChange) → AllFit t.marks.segment t cs → Becomes t.marks.segment t (all_changed t cs) × Each IsWritable cs
-  fitting cs fit = (all_become t.marks.segment cs t (steady_of t v) fit, all_writable t.marks.segment t cs fit)
+  pub fitting_paid : (o : Outcome) → IsPaid t (all_changed t o.changes) → AllFit t.marks.segment t o.changes → After t o
+  fitting_paid o paid fit = record { becomes = all_become t.marks.segment o.changes t (steady_of t v) fit; paid = paid; written = all_writable t.marks.segment t o.changes fit }
+
+  -- changes that fit, and leave what the closed months were paid by
+  pub fitting : (o : Outcome) → SamePay (ledger_of t) (ledger_of (all_changed t o.changes)) → AllFit t.marks.segment t o.changes → After t o
+  fitting o pay fit = fitting_paid o (paid_same t v (all_changed t o.changes) pay) fit
+
+  -- and those that change no record that pay goes by
+  pub fitting_apart : (o : Outcome) → ledger_of (all_changed t o.changes) ≡ ledger_of t → AllFit t.marks.segment t o.changes → After t o
+  fitting_apart o same fit = fitting o (subst (λ (l : Ledger). SamePay (ledger_of t) l) (sym same) (same_self (ledger_of t))) fit
 
   pub fine_found : (id : ℕ) (found : SegmentRecord) → segment_at t.segments id ≡ Some found → IsFine t.setup t.marks t.nodes t.customers found
   fine_found id found at = found_fine t.marks.segment t (steady_of t v) id found at
@@ -94,8 +110,10 @@ module _ (t : Tables) (v : IsValid t) where
 module _ (t : Tables) (v : IsValid t) (time : ℕ) (le : t.marks.time ≤ time) (lt : time < 2 ^ 36) where
   pub timed_fit : MarksFit t.marks (timed t.marks time)
   timed_fit = record {
-    later = record { time = le; segment = omega arith; serial = omega arith; plan = omega arith; month = refl; hour = refl };
+    later = record { time = le; segment = omega arith; serial = omega arith; plan = omega arith; month = omega arith; hour = omega arith };
     time = lt;
+    begun = month-open t.setup t.marks time le v.rules.marks;
+    hour = hour-most t.setup t.marks time le v.rules.marks;
     segment = segment-most t.setup t.marks v.rules.marks;
     serial = serial-most t.setup t.marks v.rules.marks;
     plan = plan-most t.setup t.marks v.rules.marks;

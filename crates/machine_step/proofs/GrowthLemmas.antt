@@ -21,48 +21,43 @@ use Rattle.node_registry.specs.declared.node.Node.{Node}
 use Rattle.node_registry.specs.Registry.{node_rank, node_at}
 use Rattle.segment_core.specs.Record.{SegmentRecord}
 use Rattle.settlement.specs.declared.row.SettledRow.{SettledRow}
+use Rattle.tally_payout.specs.declared.amounts.Tally.{Tally}
+use Rattle.month_pay.specs.Months.{month_at}
+use Rattle.month_pay.proofs.MonthFacts.{begun_is}
 use Rattle.machine_step.specs.Tables.{Setup, is_no_size, customer_at}
 use Rattle.machine_step.specs.Places.{addr_of}
-use Rattle.machine_step.specs.Rules.{first_bad, is_known, has_begun, is_next_number, are_sound_marks, is_rated, breaks_node, breaks_customer, are_known, are_apart, are_below, is_sound_version, is_sound_segment, is_sound_settled, is_callers, is_sound_asked, is_sound_offer, is_sound_done, is_sound_kept}
+use Rattle.machine_step.specs.Rules.{first_bad, is_known, has_begun, is_next_number, are_sound_marks, is_rated, breaks_node, breaks_customer, are_known, are_apart, are_below, is_sound_version, is_sound_segment, is_sound_settled, is_sound_tally, is_callers, is_sound_asked, is_sound_offer, is_sound_done, is_sound_kept}
 use Rattle.machine_step.specs.Places.{subnets_of}
 use Rattle.machine_step.proofs.RowLemmas.{row_at-with_row, all-weaker, both, and_of}
 
 -- ---- the marks
 
--- the greatest moment and the next numbers rise, and the rest stays
+-- the greatest moment rises, and so do the next numbers, the next month and the least hour
 pub record AreLater (old new : Marks) : Type 0 where
   pub time : old.time ≤ new.time
   pub segment : old.segment ≤ new.segment
   pub serial : old.serial ≤ new.serial
   pub plan : old.plan ≤ new.plan
-  pub month : new.month ≡ old.month
-  pub hour : new.hour ≡ old.hour
-
-begun-later : (month old new : ℕ) → old ≤ new → has_begun month old ≡ true → has_begun month new ≡ true
-begun-later month old new le begun =
-    let more : old / 86400 ≤ new / 86400 = omega arith in
-    grind (arith, nat_tests, begun, more)
-
-hour-later : (hour old new : ℕ) → old ≤ new → nat_le hour (old / 3600 + 1) ≡ true → nat_le hour (new / 3600 + 1) ≡ true
-hour-later hour old new le sound =
-    let more : old / 3600 ≤ new / 3600 = omega arith in
-    grind (arith, nat_tests, sound, more)
+  pub month : old.month.0 ≤ new.month.0
+  pub hour : old.hour.0 ≤ new.hour.0
 
 number-later : (old new : ℕ) → old ≤ new → new ≤ 2 ^ 63 → is_next_number old ≡ true → is_next_number new ≡ true
 number-later old new le most sound = grind (arith, nat_tests, sound)
 
-pub marks-later : (setup : Setup) (old new : Marks) → AreLater old new → new.segment ≤ 2 ^ 63 → new.serial ≤ 2 ^ 63 → new.plan ≤ 2 ^ 63 → are_sound_marks setup old ≡ true → are_sound_marks setup new ≡ true
-marks-later setup old new later segment serial plan sound =
-    let first = both _ _ sound in
-    let second = both _ _ first.1 in
-    let third = both _ _ second.1 in
-    let fourth = both _ _ third.1 in
-    let fifth = both _ _ fourth.1 in
-    let month : new.month.0 ≡ old.month.0 = ap (λ m. m.0) later.month in
-    let hour : new.hour.0 ≡ old.hour.0 = ap (λ h. h.0) later.hour in
-    and_of _ _ (ap (λ (m : ℕ). nat_le setup.first_month m) month ∙ first.0)
-    (and_of _ _ (ap (λ (m : ℕ). has_begun m new.time) month ∙ begun-later old.month.0 old.time new.time later.time second.0)
-    (and_of _ _ (ap (λ (h : ℕ). nat_le h (new.time / 3600 + 1)) hour ∙ hour-later old.hour.0 old.time new.time later.time third.0)
+-- where the next month has begun, and the least hour is at most the next one
+pub marks-later : (setup : Setup) (old new : Marks) → AreLater old new → new.month.0 ≤ month_at new.time → new.hour.0 ≤ new.time / 3600 + 1 → new.segment ≤ 2 ^ 63 → new.serial ≤ 2 ^ 63 → new.plan ≤ 2 ^ 63 → are_sound_marks setup old ≡ true → are_sound_marks setup new ≡ true
+marks-later setup old new later begun hour segment serial plan sound =
+    let first = both (nat_le setup.first_month old.month.0) _ sound in
+    let second = both (has_begun old.month.0 old.time) _ first.1 in
+    let third = both (nat_le old.hour.0 (old.time / 3600 + 1)) _ second.1 in
+    let fourth = both (is_next_number old.segment) _ third.1 in
+    let fifth = both (is_next_number old.serial) (is_next_number old.plan) fourth.1 in
+    let low = first.0 in
+    let rises = later.month in
+    let now : nat_le new.month.0 (month_at new.time) ≡ true = grind (arith, nat_tests, begun) in
+    and_of _ _ (grind (arith, nat_tests, low, rises))
+    (and_of _ _ (begun_is new.month.0 new.time ∙ now)
+    (and_of _ _ (grind (arith, nat_tests, hour))
     (and_of _ _ (number-later old.segment new.segment later.segment segment fourth.0)
     (and_of _ _ (number-later old.serial new.serial later.serial serial fifth.0) (number-later old.plan new.plan later.plan plan fifth.1)))))
 
@@ -224,6 +219,14 @@ module _ (setup : Setup) (old new : Marks) (nodes nodes' : List Node) (customers
         indexed = f.indexed;
         version = version-later segment f.version;
       })
+
+  pub tally-later : (row : Tally) → is_sound_tally old nodes row ≡ true → is_sound_tally new nodes' row ≡ true
+  tally-later row sound =
+      let parts = both (is_known nodes row.node) _ sound in
+      let more = both (nat_lt row.hour.0 old.hour.0) _ parts.1 in
+      let early = more.0 in
+      let rises = grows.later.hour in
+      and_of _ _ (grows.extends.known row.node parts.0) (and_of _ _ (grind (arith, nat_tests, early, rises)) more.1)
 
   pub settled-later : (row : SettledRow) → is_sound_settled old nodes row ≡ true → is_sound_settled new nodes' row ≡ true
   settled-later row sound =

@@ -17,14 +17,18 @@ use Rattle.node_registry.specs.Left.{left_rank}
 use Rattle.segment_core.specs.Record.{SegmentRecord, segment_rank}
 use Rattle.settlement.specs.declared.row.SettledRow.{SettledRow}
 use Rattle.settlement.specs.Rows.{key}
+use Rattle.tally_payout.specs.declared.amounts.Tally.{Tally}
+use Rattle.tally_payout.specs.Ranks.{tally_rank, statement_rank}
+use Rattle.month_pay.specs.Ledger.{Ledger}
+use Rattle.month_pay.specs.Keeping.{RuleHolds}
 use Rattle.audit_core.specs.declared.plan.AuditPlan.{AuditPlan}
 use Rattle.audit_core.specs.declared.rechecking.RecheckPlan.{RecheckPlan}
 use Rattle.repair_core.specs.declared.plan.RepairPlan.{RepairPlan}
 use Rattle.repair_core.specs.declared.plan.ExitPlan.{ExitPlan}
 use Rattle.machine_step.specs.Tables.{Setup}
-use Rattle.machine_step.specs.Rules.{is_sound_segment, is_sound_settled, is_sound_kept}
+use Rattle.machine_step.specs.Rules.{is_sound_segment, is_sound_settled, is_sound_tally, is_sound_kept}
 use Rattle.machine_step.specs.PlanRules.{is_sound_audit, is_sound_recheck, is_sound_repair, is_sound_exit, is_owed, is_sound_left, is_accounted}
-use Rattle.machine_step.specs.Bounds.{Each, IsSegmentWithin, IsAuditWithin, IsRepairWithin, IsExitWithin}
+use Rattle.machine_step.specs.Bounds.{Each, IsSegmentWithin, IsSettledWithin, IsAuditWithin, IsRepairWithin, IsExitWithin}
 use Rattle.machine_step.proofs.RowLemmas.{rising-with_row, length-without, all-with_row, all-without, each-with_row, each-without}
 
 pub record SegmentsHold (setup : Setup) (marks : Marks) (nodes : List Node) (customers : List Customer) (rows : List SegmentRecord) : Type 0 where
@@ -37,6 +41,16 @@ pub record SettledHold (setup : Setup) (marks : Marks) (nodes : List Node) (rows
   pub all : list_all (is_sound_settled marks nodes) rows ≡ true
   pub few : length rows ≤ setup.caps.settled
   pub rising : IsRising key rows
+  pub within : Each IsSettledWithin rows
+
+pub record TalliesHold (setup : Setup) (marks : Marks) (nodes : List Node) (rows : List Tally) : Type 0 where
+  pub all : list_all (is_sound_tally marks nodes) rows ≡ true
+  pub few : length rows ≤ setup.caps.tallies
+  pub rising : IsRising tally_rank rows
+
+pub record StatementsHold (cap : ℕ) (ledger : Ledger) : Type 0 where
+  pub rule : RuleHolds cap ledger
+  pub rising : IsRising statement_rank ledger.statements
 
 pub record KeptHold (marks : Marks) (nodes : List Node) (customers : List Customer) (rows : List Kept) : Type 0 where
   pub all : list_all (is_sound_kept marks nodes customers) rows ≡ true

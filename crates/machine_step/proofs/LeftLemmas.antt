@@ -9,7 +9,7 @@ use Rattle.node_registry.specs.declared.node.Left.{Left}
 use Rattle.machine_step.specs.Rules.{least}
 use Rattle.machine_step.specs.PlanRules.{is_sound_left, is_accounted, bad_lefts, missing_lefts, bad_left}
 
-least-none : (xs : List ℕ) → least xs ≡ None → xs ≡ []
+pub least-none : (xs : List ℕ) → least xs ≡ None → xs ≡ []
 least-none [] none = refl
 least-none (x ∷ xs) none = cc
 

@@ -41,8 +41,9 @@ use Rattle.machine_step.proofs.TargetLemmas.{AreWell, AreOpen, well-put, longer-
 use Rattle.machine_step.proofs.SameLemmas.{same-repair, open-is}
 use Rattle.machine_step.proofs.Validity.{segments_hold}
 use Rattle.machine_step.proofs.Fits.{After, still, fitting, fine_found, timed_fit}
+use Rattle.machine_step.proofs.Paid.{IsStill, paid_nodes}
 use Rattle.machine_step.proofs.Batches.{CanUpdate, fit-nodes, each-mapped}
-use Rattle.machine_step.proofs.Rated.{can-outcome}
+use Rattle.machine_step.proofs.Rated.{can-outcome, still-outcome}
 use Rattle.machine_step.proofs.Drawn.{fit_superseded}
 
 kept-others : (sources : List At) (first second : List ℕ) → length (others (place_indexes sources) first second) ≡ length (filter (λ source. not (has_index first source.index) && not (has_index second source.index)) sources)
@@ -142,10 +143,18 @@ module _ (t : Tables) (v : IsValid t) (time : ℕ) (le : t.marks.time ≤ time) 
       one source n true is = can-outcome t v source.node (Some Fail) n is
       one source n false is = cc
 
+  still-failed : (has : At → Bool) (sources : List At) → Each (IsStill t.nodes) (failed t.nodes has sources)
+  still-failed has sources = each-mapped (IsStill t.nodes) (λ source. if has source then after_outcome (node_at t.nodes source.node) Fail else None) sources (λ source n is. one source n (has source) is)
+    where
+      one : (source : At) (n : Node) (b : Bool) → (if b then after_outcome (node_at t.nodes source.node) Fail else None) ≡ Some n → IsStill t.nodes n
+      one source n true is = still-outcome t.nodes source.node (Some Fail) n is
+      one source n false is = cc
+
   fit_unrepaired : (kind : ℕ) → IsPlanKind kind → (unmended : Unmended) → After t (unrepaired t time kind unmended)
   fit_unrepaired kind is_kind unmended =
       let has : At → Bool = λ source. is_among unmended.missing source.index in
-      fitting t v (unrepaired t time kind unmended).changes
+      let here = all_changed t (changes.Marks (timed t.marks time) ∷ changes.Remove (keys.Plan kind) ∷ []) in
+      fitting t v (unrepaired t time kind unmended) (paid_nodes t here (failed t.nodes has unmended.plan.sources) refl (still-failed has unmended.plan.sources))
       (timed_fit t v time le lt, (is_kind, fit-nodes t.marks.segment (failed t.nodes has unmended.plan.sources) (all_changed t (changes.Marks (timed t.marks time) ∷ changes.Remove (keys.Plan kind) ∷ [])) (fit-failed has unmended.plan.sources)))
 
   -- the pieces of the next version
@@ -184,7 +193,7 @@ module _ (t : Tables) (v : IsValid t) (time : ℕ) (le : t.marks.time ≤ time) 
       }) in
       let most = v.bounds.setup.scheme.few_pieces in
       let has : At → Bool = λ source. not (is_kept mended source) in
-      fitting t v (repair_ended t time kind mended found).changes (
+      fitting t v (repair_ended t time kind mended found) (paid_nodes t there (failed t.nodes has mended.plan.sources) refl (still-failed has mended.plan.sources)) (
         timed_fit t v time le lt,
         (
           is_kind,

@@ -13,6 +13,7 @@ use Rattle.machine_step.specs.Writable.{IsWritable}
 use Rattle.machine_step.specs.Containment.{release, fallen, with_releases, swept}
 use Rattle.machine_step.specs.Step.{risen, asking, operator, case_of, step, after, tables_after, is_stopping, IsWellFormed}
 use Rattle.machine_step.specs.Bounds.{Each, IsValid}
+use Rattle.machine_step.specs.Closed.{StaysClosed}
 use Rattle.machine_step.proofs.Validity.{Follows, follows}
 use Rattle.machine_step.proofs.Fits.{After, still}
 use Rattle.machine_step.proofs.Calls.AddNode.{fit_add_node}
@@ -23,15 +24,19 @@ use Rattle.machine_step.proofs.Calls.Get.{fit_get}
 use Rattle.machine_step.proofs.Calls.Delete.{fit_delete}
 use Rattle.machine_step.proofs.Calls.Settle.{fit_settle}
 use Rattle.machine_step.proofs.Calls.SetFree.{fit_set_free}
+use Rattle.machine_step.proofs.Calls.Statement.{fit_statement}
 use Rattle.machine_step.proofs.Calls.PlanAudit.{fit_plan_audit}
 use Rattle.machine_step.proofs.Calls.EndAudit.{fit_end_audit}
 use Rattle.machine_step.proofs.Calls.PlanRecheck.{fit_plan_recheck}
 use Rattle.machine_step.proofs.Calls.EndRecheck.{fit_end_recheck}
 use Rattle.machine_step.proofs.Calls.PlanRepair.{fit_plan_repair}
 use Rattle.machine_step.proofs.Calls.EndRepair.{fit_end_repair}
+use Rattle.machine_step.proofs.Calls.TallyHour.{fit_tally_hour}
+use Rattle.machine_step.proofs.Calls.CloseMonth.{fit_close_month}
 use Rattle.machine_step.proofs.Calls.Exit.{fit_exit}
 use Rattle.machine_step.proofs.Calls.PlanExit.{fit_plan_exit}
 use Rattle.machine_step.proofs.Calls.EndExit.{fit_end_exit}
+use Rattle.machine_step.proofs.Calls.SetRates.{fit_set_rates}
 
 -- the moment of a call is one
 risen_within : (t : Tables) (v : IsValid t) (now : ℕ) → now < 2 ^ 36 → risen t now < 2 ^ 36
@@ -44,28 +49,35 @@ fit_case t (calls.Begin now customer request len words) v w = fit_begin t v (ask
 fit_case t (calls.Commit now customer request segment indexes) v w = fit_commit t v (asking t customer request now) (omega arith) (risen_within t v now w.formed.timely) segment indexes
 fit_case t (calls.Get now customer request segment) v w = fit_get t v (asking t customer request now) (omega arith) (risen_within t v now w.formed.timely) segment
 fit_case t (calls.Delete now customer request segment) v w = fit_delete t v (asking t customer request now) (omega arith) (risen_within t v now w.formed.timely) segment
-fit_case t (calls.Settle now node bytes) v w = fit_settle t v (risen t now) (omega arith) (risen_within t v now w.formed.timely) node bytes
+fit_case t (calls.Settle now node bytes) v w = fit_settle t v (risen t now) (omega arith) (risen_within t v now w.formed.timely) node bytes w.formed.bytes
 fit_case t (calls.SetFree now node free) v w = fit_set_free t v (risen t now) (omega arith) (risen_within t v now w.formed.timely) node free
+fit_case t (calls.Statement node month) v w = fit_statement t v node month
 fit_case t (calls.PlanAudit now words) v w = fit_plan_audit t v (risen t now) (omega arith) (risen_within t v now w.formed.timely) words
 fit_case t (calls.EndAudit now judged) v w = fit_end_audit t v (risen t now) (omega arith) (risen_within t v now w.formed.timely) judged
 fit_case t (calls.PlanRecheck now) v w = fit_plan_recheck t v (risen t now) (omega arith) (risen_within t v now w.formed.timely)
 fit_case t (calls.EndRecheck now plan checked) v w = fit_end_recheck t v (risen t now) (omega arith) (risen_within t v now w.formed.timely) plan checked
 fit_case t (calls.PlanRepair now words) v w = fit_plan_repair t v (risen t now) (omega arith) (risen_within t v now w.formed.timely) words
 fit_case t (calls.EndRepair now outcome) v w = fit_end_repair t v (risen t now) (omega arith) (risen_within t v now w.formed.timely) outcome w.scheme
+fit_case t (calls.TallyHour now) v w = fit_tally_hour t v (risen t now) (omega arith) (risen_within t v now w.formed.timely)
+fit_case t (calls.CloseMonth now month) v w = fit_close_month t v (risen t now) (omega arith) (risen_within t v now w.formed.timely) month
 fit_case t (calls.Exit now node) v w = fit_exit t v (risen t now) (omega arith) (risen_within t v now w.formed.timely) node
 fit_case t (calls.PlanExit now words) v w = fit_plan_exit t v (risen t now) (omega arith) (risen_within t v now w.formed.timely) words
 fit_case t (calls.EndExit now outcome) v w = fit_end_exit t v (risen t now) (omega arith) (risen_within t v now w.formed.timely) outcome w.scheme
+fit_case t (calls.SetRates now month rates) v w = fit_set_rates t v (risen t now) (omega arith) (risen_within t v now w.formed.timely) month rates w.formed.tariff
 fit_case t calls.Stop v w = still t v replies.Stopping
 
 pub follows_step : (t : Tables) (call : Call) → IsValid t → IsWellFormed t call → Follows t (after t call)
 follows_step t call v w = go t.stopped
   where
     go : (b : Bool) → Follows t (tables_after t (if b then refused refusals.Stopped else swept t (case_of t call)))
-    go true = follows t v (t.stopped || false) [] (still t v replies.Stopping).0
-    go false = follows t v ((all_changed t (with_releases t (case_of t call).changes)).stopped || is_stopping (case_of t call).reply) (case_of t call).changes (fit_case t call v w).0
+    go true = follows t v (t.stopped || false) [] (still t v replies.Stopping).becomes (still t v replies.Stopping).paid
+    go false = follows t v ((all_changed t (with_releases t (case_of t call).changes)).stopped || is_stopping (case_of t call).reply) (case_of t call).changes (fit_case t call v w).becomes (fit_case t call v w).paid
 
 pub valid_step : (t : Tables) (call : Call) → IsValid t → IsWellFormed t call → IsValid (after t call)
 valid_step t call v w = (follows_step t call v w).valid
+
+pub closed_step : (t : Tables) (call : Call) → IsValid t → IsWellFormed t call → StaysClosed t (after t call)
+closed_step t call v w = (follows_step t call v w).closed
 
 -- ---- what a store is told
 
@@ -86,4 +98,4 @@ writable_step t call v w = go t.stopped
   where
     go : (b : Bool) → Each IsWritable (if b then refused refusals.Stopped else swept t (case_of t call)).changes
     go true = tt
-    go false = with_releases_writable t (case_of t call).changes (fit_case t call v w).1
+    go false = with_releases_writable t (case_of t call).changes (fit_case t call v w).written

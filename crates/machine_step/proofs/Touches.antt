@@ -1,5 +1,5 @@
 -- Which tables a call may touch, by the kinds of the records that it changes; a table of another kind stays.
-use Rattle.std.proofs.Common.{◌≡◌, ℕ, Bool, true, false, List, [], ◌∷◌, ◌++◌, None, refl, ap, ◌∙◌, arith}
+use Rattle.std.proofs.Common.{◌≡◌, ℕ, ◌/◌, Bool, true, false, List, [], ◌∷◌, ◌++◌, None, refl, ap, ◌∙◌, arith}
 use Rattle.std.specs.Prelude.{◌==◌, if◌then◌else◌, map}
 use Rattle.std.specs.List.{list_all}
 use Rattle.std.proofs.lemmas.Bool.Decides.{nat_tests}
@@ -9,8 +9,12 @@ use Rattle.machine_calls.specs.declared.call.Call.{Call}
 use Rattle.machine_calls.specs.declared.call.Call.TheVariants as calls
 use Rattle.machine_calls.specs.declared.change.RecChange.{RecChange}
 use Rattle.machine_calls.specs.declared.change.RecChange.TheVariants as changes
-use Rattle.machine_step.specs.Tables.{Tables, changed, all_changed}
-use Rattle.machine_step.specs.Step.{case_of}
+use Rattle.tally_payout.specs.declared.amounts.Tally.{Tally}
+use Rattle.tally_payout.specs.declared.amounts.Statement.{Statement}
+use Rattle.month_pay.specs.Ledger.{month_rows}
+use Rattle.machine_step.specs.Tables.{Tables, ledger_of, changed, all_changed}
+use Rattle.machine_step.specs.Calls.TallyHour.{hour_rows}
+use Rattle.machine_step.specs.Step.{risen, case_of}
 use Rattle.sat_base.specs.declared.records.Containment.{Containment}
 use Rattle.node_registry.specs.declared.node.Node.{Node}
 use Rattle.machine_step.specs.Calls.EndAudit.{nodes_after, containments_after}
@@ -52,15 +56,19 @@ kinds_of (calls.Get now customer request segment) = 2 ∷ 13 ∷ []
 kinds_of (calls.Delete now customer request segment) = 2 ∷ 5 ∷ 13 ∷ []
 kinds_of (calls.Settle now node bytes) = 2 ∷ 6 ∷ []
 kinds_of (calls.SetFree now node free) = 2 ∷ 3 ∷ []
+kinds_of (calls.Statement node month) = []
 kinds_of (calls.PlanAudit now words) = 2 ∷ 9 ∷ []
 kinds_of (calls.EndAudit now judged) = 2 ∷ 3 ∷ 9 ∷ 12 ∷ []
 kinds_of (calls.PlanRecheck now) = 2 ∷ 10 ∷ []
 kinds_of (calls.EndRecheck now plan checked) = 2 ∷ 3 ∷ 10 ∷ 12 ∷ []
 kinds_of (calls.PlanRepair now words) = 2 ∷ 11 ∷ []
 kinds_of (calls.EndRepair now outcome) = 2 ∷ 3 ∷ 5 ∷ 11 ∷ []
+kinds_of (calls.TallyHour now) = 2 ∷ 7 ∷ []
+kinds_of (calls.CloseMonth now month) = 2 ∷ 8 ∷ []
 kinds_of (calls.Exit now node) = 2 ∷ 3 ∷ []
 kinds_of (calls.PlanExit now words) = 2 ∷ 3 ∷ 14 ∷ 15 ∷ []
 kinds_of (calls.EndExit now outcome) = 2 ∷ 3 ∷ 5 ∷ 14 ∷ []
+kinds_of (calls.SetRates now month rates) = 2 ∷ 16 ∷ []
 kinds_of calls.Stop = []
 
 -- ---- what each call touches
@@ -72,6 +80,14 @@ of-nodes kinds (node ∷ nodes) has = and_of _ _ has (of-nodes kinds nodes has)
 pub of-containments : (kinds : List ℕ) (rows : List Containment) → is_among kinds 12 ≡ true → are_of kinds (map changes.Containment rows) ≡ true
 of-containments kinds [] has = refl
 of-containments kinds (row ∷ rows) has = and_of _ _ has (of-containments kinds rows has)
+
+of-tallies : (kinds : List ℕ) (rows : List Tally) → is_among kinds 7 ≡ true → are_of kinds (map changes.Tally rows) ≡ true
+of-tallies kinds [] has = refl
+of-tallies kinds (row ∷ rows) has = and_of _ _ has (of-tallies kinds rows has)
+
+of-statements : (kinds : List ℕ) (rows : List Statement) → is_among kinds 8 ≡ true → are_of kinds (map changes.Statement rows) ≡ true
+of-statements kinds [] has = refl
+of-statements kinds (row ∷ rows) has = and_of _ _ has (of-statements kinds rows has)
 
 pub of-append : (kinds : List ℕ) (xs ys : List RecChange) → are_of kinds xs ≡ true → are_of kinds ys ≡ true → are_of kinds (xs ++ ys) ≡ true
 of-append kinds [] ys h k = k
@@ -86,6 +102,7 @@ touched t (calls.Get now customer request segment) = grind (arith, nat_tests)
 touched t (calls.Delete now customer request segment) = grind (arith, nat_tests)
 touched t (calls.Settle now node bytes) = grind (arith, nat_tests)
 touched t (calls.SetFree now node free) = grind (arith, nat_tests)
+touched t (calls.Statement node month) = grind (arith, nat_tests)
 touched t (calls.PlanAudit now words) = grind (arith, nat_tests)
 touched t (calls.EndAudit now judged) =
     let kinds = kinds_of (calls.EndAudit now judged) in
@@ -96,10 +113,13 @@ touched t (calls.EndRecheck now plan checked) = grind (arith, nat_tests)
 touched t (calls.PlanRepair now words) = grind (arith, nat_tests)
 touched t (calls.EndRepair now outcome) =
     let some : (nodes : List Node) → are_of (kinds_of (calls.EndRepair now outcome)) (map changes.Node nodes) ≡ true = λ nodes. of-nodes (kinds_of (calls.EndRepair now outcome)) nodes refl in grind (arith, nat_tests, some)
+touched t (calls.TallyHour now) = let some = of-tallies (kinds_of (calls.TallyHour now)) (hour_rows t (risen t now / 3600)) refl in grind (arith, nat_tests, some)
+touched t (calls.CloseMonth now month) = let some = of-statements (kinds_of (calls.CloseMonth now month)) (month_rows (ledger_of t) t.marks.month.0) refl in grind (arith, nat_tests, some)
 touched t (calls.Exit now node) = grind (arith, nat_tests)
 touched t (calls.PlanExit now words) = grind (arith, nat_tests)
 touched t (calls.EndExit now outcome) =
     let some : (nodes : List Node) → are_of (kinds_of (calls.EndExit now outcome)) (map changes.Node nodes) ≡ true = λ nodes. of-nodes (kinds_of (calls.EndExit now outcome)) nodes refl in grind (arith, nat_tests, some)
+touched t (calls.SetRates now month rates) = grind (arith, nat_tests)
 touched t calls.Stop = refl
 
 other-kind : (kinds : List ℕ) (kind own : ℕ) → is_among kinds kind ≡ true → is_among kinds own ≡ false → (kind == own) ≡ false

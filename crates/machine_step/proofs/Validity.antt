@@ -6,13 +6,12 @@ use Rattle.std.proofs.lemmas.Bool.Decides.{nat_tests}
 use Rattle.sat_base.specs.declared.records.At.{At}
 use Rattle.sat_base.specs.declared.records.Containment.{Containment}
 use Rattle.node_registry.specs.Registry.{node_at}
-use Rattle.rows.specs.Rows.{IsRising}
-use Rattle.tally_payout.specs.Ranks.{tally_rank, statement_rank}
+use Rattle.month_pay.proofs.RuleForms.{rule_back}
 use Rattle.segment_core.specs.Record.{SegmentRecord, segment_rank}
 use Rattle.machine_calls.specs.declared.change.RecChange.{RecChange}
-use Rattle.machine_step.specs.Tables.{Tables, segment_at, all_changed}
+use Rattle.machine_step.specs.Tables.{Setup, Tables, ledger_of, segment_at, all_changed}
 use Rattle.machine_step.specs.Containment.{stands, place_of, has_live_piece, serves, with_releases}
-use Rattle.machine_step.specs.Rules.{is_sound_segment, is_sound_settled, is_sound_kept}
+use Rattle.machine_step.specs.Rules.{least, is_sound_segment, is_sound_settled, is_sound_tally, is_sound_kept}
 use Rattle.machine_step.specs.PlanRules.{is_none_or, is_sound_audit, is_sound_recheck, is_sound_repair, is_sound_exit, is_owed}
 use Rattle.machine_step.specs.Bounds.{IsAuditWithin, IsRepairWithin, IsExitWithin, IsValid}
 use Rattle.machine_step.proofs.RowLemmas.{all-found, found_rank, capped-all, capped-length, capped-back, plain-all, plain-back, all-weaker, both, and_of}
@@ -20,9 +19,12 @@ use Rattle.machine_step.proofs.GrowthLemmas.{fine}
 use Rattle.machine_step.proofs.ReleaseLemmas.{left_of, releases_are, left_standing, rising-filtered, all-kept}
 use Rattle.machine_step.proofs.PieceLemmas.{all-filtered}
 use Rattle.machine_step.proofs.LeftLemmas.{lefts-kept, kept-lefts}
-use Rattle.machine_step.proofs.Hold.{SegmentsHold, AuditHolds, RecheckHolds, RepairHolds, ExitHolds}
+use Rattle.machine_step.proofs.Hold.{SegmentsHold, StatementsHold, AuditHolds, RecheckHolds, RepairHolds, ExitHolds}
 use Rattle.machine_step.proofs.Steady.{IsSteady, GrowsTo, grows_self}
-use Rattle.machine_step.proofs.Changes.{Becomes, some_map, steady_containments}
+use Rattle.machine_step.specs.Closed.{StaysClosed}
+use Rattle.machine_step.proofs.Changes.{some_map, steady_containments}
+use Rattle.machine_step.proofs.Becoming.{Becomes}
+use Rattle.machine_step.proofs.Paid.{IsPaid, statements_of}
 
 -- a plan that is sound, in parts
 all_some : {X : Type 0} (test : X → Bool) (P W : X → Type 0) (found : Option X) → is_none_or test found ≡ true → IfSome found W → ((x : X) → test x ≡ true → W x → P x) → IfSome found P
@@ -77,9 +79,13 @@ module _ (t : Tables) (v : IsValid t) where
       all = capped-all t.setup.caps.settled (is_sound_settled t.marks t.nodes) t.settled 0 v.rules.settled;
       few = omega (arith, capped-length t.setup.caps.settled (is_sound_settled t.marks t.nodes) t.settled 0 v.rules.settled (omega arith));
       rising = v.order.settled;
+      within = v.bounds.settled;
     };
-    tallies = v.rules.tallies;
-    statements = v.rules.statements;
+    tallies = record {
+      all = capped-all t.setup.caps.tallies (is_sound_tally t.marks t.nodes) t.tallies 0 v.rules.tallies;
+      few = omega (arith, capped-length t.setup.caps.tallies (is_sound_tally t.marks t.nodes) t.tallies 0 v.rules.tallies (omega arith));
+      rising = v.order.tallies;
+    };
     kept = record { all = plain-all (is_sound_kept t.marks t.nodes t.customers) t.kept 0 v.rules.kept; rising = v.order.kept; within = v.bounds.kept };
     audit = all_some (is_sound_audit t.setup t.marks t.segments) (AuditHolds t.marks.segment t.setup t.marks t.segments) IsAuditWithin t.audit v.rules.audit v.bounds.audit
         (λ plan sound within. record { sound = sound; below = grind (arith, nat_tests, sound); within = within });
@@ -100,20 +106,17 @@ module _ (t : Tables) (v : IsValid t) where
     tariffs_within = v.bounds.tariffs;
   }
 
-rising_none : {R : Type 0} (rank : R → ℕ) (rows : List R) → rows ≡ [] → IsRising rank rows
-rising_none rank rows is = subst (IsRising rank) (sym is) tt
-
--- steady tables whose containments stand are valid, whatever the mark of stopping
-pub valid_of : (from : ℕ) (t : Tables) (stopped : Bool) → IsSteady from t → list_all (stands t) t.containments ≡ true → IsValid (record t { stopped = stopped })
-valid_of from t stopped s stand = record {
+-- steady tables whose statements keep their rule and whose containments stand are valid, whatever the mark of stopping
+pub valid_of : (from : ℕ) (t : Tables) (stopped : Bool) → IsSteady from t → StatementsHold t.setup.caps.statements (ledger_of t) → list_all (stands t) t.containments ≡ true → IsValid (record t { stopped = stopped })
+valid_of from t stopped s paid stand = record {
   rules = record {
     marks = s.marks;
     nodes = s.nodes;
     customers = s.customers;
     segments = capped-back t.setup.caps.segments (is_sound_segment t.setup t.marks t.nodes t.customers) t.segments 0 s.segments.all (omega (arith, s.segments.few));
     settled = capped-back t.setup.caps.settled (is_sound_settled t.marks t.nodes) t.settled 0 s.settled.all (omega (arith, s.settled.few));
-    tallies = s.tallies;
-    statements = s.statements;
+    tallies = capped-back t.setup.caps.tallies (is_sound_tally t.marks t.nodes) t.tallies 0 s.tallies.all (omega (arith, s.tallies.few));
+    statements = ap least (rule_back t.setup.caps.statements (ledger_of t) paid.rule);
     kept = plain-back (is_sound_kept t.marks t.nodes t.customers) t.kept 0 s.kept.all;
     audit = some_all (is_sound_audit t.setup t.marks t.segments) (AuditHolds from t.setup t.marks t.segments) t.audit s.audit (λ plan h. h.sound);
     recheck = some_all (is_sound_recheck t.marks t.nodes) (RecheckHolds t.marks t.nodes) t.recheck s.recheck (λ plan h. h.sound);
@@ -123,11 +126,12 @@ valid_of from t stopped s stand = record {
     left = kept-lefts t.marks t.nodes t.left s.left.all s.left.accounted;
     tariffs = s.tariffs;
   };
-  order = record { segments = s.segments.rising; settled = s.settled.rising; tallies = rising_none tally_rank t.tallies s.tallies; statements = rising_none statement_rank t.statements s.statements; kept = s.kept.rising; containments = s.containments.rising; left = s.left.rising; tariffs = s.tariffs_rising };
+  order = record { segments = s.segments.rising; settled = s.settled.rising; tallies = s.tallies.rising; statements = paid.rising; kept = s.kept.rising; containments = s.containments.rising; left = s.left.rising; tariffs = s.tariffs_rising };
   bounds = record {
     setup = s.setup;
     marks = s.marks_within;
     segments = s.segments.within;
+    settled = s.settled.within;
     kept = s.kept.within;
     audit = some_map (AuditHolds from t.setup t.marks t.segments) IsAuditWithin t.audit (λ plan h. h.within) s.audit;
     repair = some_map (RepairHolds from t.setup t.marks t.nodes t.segments) IsRepairWithin t.repair (λ plan h. h.within) s.repair;
@@ -156,20 +160,24 @@ steady_left from t s =
 pub record Follows (t t' : Tables) : Type 0 where
   pub valid : IsValid t'
   pub grows : GrowsTo t.marks.segment t t'
+  pub closed : StaysClosed t t'
 
 -- an outcome whose changes keep what holds makes valid tables, once it is swept
-pub follows : (t : Tables) (v : IsValid t) (reply_stops : Bool) (cs : List RecChange) → Becomes t.marks.segment t (all_changed t cs)
+pub follows : (t : Tables) (v : IsValid t) (reply_stops : Bool) (cs : List RecChange) → Becomes t.marks.segment t (all_changed t cs) → IsPaid t (all_changed t cs)
     → Follows t (record (all_changed t (with_releases t cs)) { stopped = reply_stops })
-follows t v stops [] b = record { valid = valid_of t.marks.segment t stops (steady_of t v) (all_stand t v); grows = regrown t t (grows_self t.marks.segment t) }
+follows t v stops [] b p = record { valid = valid_of t.marks.segment t stops (steady_of t v) (statements_of t v) (all_stand t v); grows = regrown t t (grows_self t.marks.segment t); closed = record { sums = p.closed.sums; statements = p.closed.statements } }
   where
     regrown : (t t' : Tables) → GrowsTo t.marks.segment t t' → GrowsTo t.marks.segment t (record t' { stopped = stops })
     regrown t t' g = record { setup = g.setup; later = g.later; extends = g.extends; stay = g.stay; segments = g.segments }
-follows t v stops (c ∷ cs) b =
+follows t v stops (c ∷ cs) b p =
     let next = all_changed t (c ∷ cs) in
     let left : left_of t (c ∷ cs) ≡ filter (stands next) next.containments = left_standing t c cs b.steady.containments.rising in
     let same : all_changed t (with_releases t (c ∷ cs)) ≡ record next { containments = filter (stands next) next.containments }
     = releases_are t (c ∷ cs) ∙ ap (λ (rows : List Containment). record next { containments = rows }) left in
+    let setup = b.grows.setup in
+    let paid : StatementsHold next.setup.caps.statements (ledger_of next) = subst (λ (s : Setup). StatementsHold s.caps.statements (ledger_of next)) (sym setup) p.holds in
     subst (λ (x : Tables). Follows t (record x { stopped = stops })) (sym same) (record {
-      valid = valid_of t.marks.segment (record next { containments = filter (stands next) next.containments }) stops (steady_left t.marks.segment next b.steady) (all-kept (stands next) next.containments);
+      valid = valid_of t.marks.segment (record next { containments = filter (stands next) next.containments }) stops (steady_left t.marks.segment next b.steady) (record { rule = paid.rule; rising = paid.rising }) (all-kept (stands next) next.containments);
+      closed = record { sums = p.closed.sums; statements = p.closed.statements };
       grows = record { setup = b.grows.setup; later = b.grows.later; extends = b.grows.extends; stay = b.grows.stay; segments = b.grows.segments };
     })

@@ -1,6 +1,7 @@
 -- The bounds of each record beside the rules. What isn't bounded here is bounded by its type, or by a rule: moments are at most the greatest one, and indexes of pieces are below n.
-use Rattle.std.specs.Prelude.{◌≡◌, ◌≤◌, true, List, [], ◌∷◌, length, IfSome}
+use Rattle.std.specs.Prelude.{◌≡◌, ◌<◌, ◌≤◌, ◌^◌, true, List, length, IfSome}
 use Rattle.sat_base.specs.declared.limits.TheConstants as limits
+pub use Rattle.rows.specs.Rows.{Each}
 use Rattle.sat_base.specs.Scheme.{IsScheme}
 use Rattle.sat_base.specs.Limits.{IsMonthWithin, AreCapsWithin, AreMarksWithin, IsKeptWithin, IsTariffWithin}
 use Rattle.sat_base.specs.declared.records.At.{At}
@@ -9,14 +10,10 @@ use Rattle.repair_core.specs.declared.plan.RepairPlan.{RepairPlan}
 use Rattle.repair_core.specs.declared.plan.ExitPlan.{ExitPlan}
 use Rattle.segment_core.specs.Record.{SegmentRecord}
 use Rattle.segment_core.specs.Places.{IsByIndex}
+use Rattle.settlement.specs.declared.row.SettledRow.{SettledRow}
 use Rattle.machine_step.specs.Tables.{Setup, Tables}
 use Rattle.machine_step.specs.Rules.{are_below}
 use Rattle.machine_step.specs.Sound.{IsSound, IsOrdered}
-
--- each row of a list
-abbrev pub Each : {R : Type 0} → (R → Type 0) → List R → Type 0
-Each P [] = Unit {0}
-Each P (row ∷ rest) = P row × Each P rest
 
 pub record IsSetupWithin (setup : Setup) : Type 0 where
   pub scheme : IsScheme setup.k setup.m setup.o setup.n setup.share
@@ -46,10 +43,15 @@ pub record IsRepairWithin (plan : RepairPlan) : Type 0 where
 abbrev pub IsExitWithin : ExitPlan → Type 0
 IsExitWithin exit = IsRepairWithin exit.plan
 
+-- an amount has eight bytes
+abbrev pub IsSettledWithin : SettledRow → Type 0
+IsSettledWithin row = row.amount < 2 ^ 64
+
 pub record AreWithin (t : Tables) : Type 0 where
   pub setup : IsSetupWithin t.setup
   pub marks : AreMarksWithin t.marks
   pub segments : Each IsSegmentWithin t.segments
+  pub settled : Each IsSettledWithin t.settled
   pub audit : IfSome t.audit IsAuditWithin
   pub repair : IfSome t.repair IsRepairWithin
   pub kept : Each IsKeptWithin t.kept

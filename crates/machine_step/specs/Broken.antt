@@ -13,11 +13,10 @@ use Rattle.node_registry.specs.declared.node.Left.{Left}
 use Rattle.segment_core.specs.Record.{SegmentRecord}
 use Rattle.settlement.specs.declared.row.SettledRow.{SettledRow}
 use Rattle.tally_payout.specs.declared.amounts.Tally.{Tally}
-use Rattle.tally_payout.specs.declared.amounts.Statement.{Statement}
+use Rattle.month_pay.specs.Ledger.{Ledger}
 use Rattle.machine_calls.specs.declared.rules.TheConstants as rules
-use Rattle.machine_step.specs.Tables.{Setup, Tables}
-use Rattle.machine_step.specs.Health.{first_of}
-use Rattle.machine_step.specs.Rules.{first_bad, are_sound_marks, breaks_node, breaks_customer, breaks_segment, breaks_settled, breaks_kept, bad_tariff}
+use Rattle.machine_step.specs.Tables.{Setup, Tables, ledger_of}
+use Rattle.machine_step.specs.Rules.{first_bad, are_sound_marks, breaks_node, breaks_customer, breaks_segment, breaks_settled, breaks_tally, bad_statement, breaks_kept, bad_tariff}
 use Rattle.machine_step.specs.PlanRules.{is_none_or, is_sound_audit, is_sound_recheck, is_sound_repair, breaks_containment, is_sound_exit, bad_left}
 
 -- a rule that is broken, and the first record that breaks it: its kind, and its id's bytes
@@ -41,9 +40,6 @@ settled_id row = to_be_bytes w64 row.serial.0 ++ to_be_bytes w32 row.node.0
 abbrev pub tally_id : Tally → List ℕ
 tally_id tally = to_be_bytes w64 tally.hour.0 ++ to_be_bytes w32 tally.node.0
 
-abbrev pub statement_id : Statement → List ℕ
-statement_id statement = to_be_bytes w32 statement.month.0 ++ to_be_bytes w32 statement.node.0
-
 -- ---- the first record that breaks each rule
 
 abbrev pub broken_marks : Setup → Marks → Option Broken
@@ -63,12 +59,12 @@ broken_segments setup marks nodes customers segments =
 abbrev pub broken_settled : Setup → Marks → List Node → List SettledRow → Option Broken
 broken_settled setup marks nodes rows = option_map (λ row. broken rules.SETTLED kinds.SETTLED_ROW (settled_id row)) (first_bad (breaks_settled setup marks nodes) 0 rows)
 
--- no call keeps tallies or statements yet, so that each breaks its rule
-abbrev pub broken_tallies : List Tally → Option Broken
-broken_tallies tallies = option_map (λ tally. broken rules.TALLIES kinds.TALLY (tally_id tally)) (first_of tallies)
+abbrev pub broken_tallies : Setup → Marks → List Node → List Tally → Option Broken
+broken_tallies setup marks nodes tallies = option_map (λ tally. broken rules.TALLIES kinds.TALLY (tally_id tally)) (first_bad (breaks_tally setup marks nodes) 0 tallies)
 
-abbrev pub broken_statements : List Statement → Option Broken
-broken_statements statements = option_map (λ statement. broken rules.STATEMENTS kinds.STATEMENT (statement_id statement)) (first_of statements)
+-- the month and the node are four bytes each
+abbrev pub broken_statements : Setup → Ledger → Option Broken
+broken_statements setup ledger = option_map (λ place. broken rules.STATEMENTS kinds.STATEMENT (to_be_bytes w64 place)) (bad_statement setup ledger)
 
 -- an open plan of a kind that isn't sound
 abbrev pub broken_plan : {P : Type 0} → ℕ → ℕ → (P → Bool) → Option P → Option Broken
@@ -100,8 +96,8 @@ first_broken t = first_some (
     ∷ broken_customers t.setup t.marks t.customers
     ∷ broken_segments t.setup t.marks t.nodes t.customers t.segments
     ∷ broken_settled t.setup t.marks t.nodes t.settled
-    ∷ broken_tallies t.tallies
-    ∷ broken_statements t.statements
+    ∷ broken_tallies t.setup t.marks t.nodes t.tallies
+    ∷ broken_statements t.setup (ledger_of t)
     ∷ broken_plan rules.PLANS kinds.AUDIT_PLAN (is_sound_audit t.setup t.marks t.segments) t.audit
     ∷ broken_plan rules.PLANS kinds.RECHECK_PLAN (is_sound_recheck t.marks t.nodes) t.recheck
     ∷ broken_plan rules.PLANS kinds.REPAIR_PLAN (is_sound_repair t.setup t.marks t.nodes t.segments) t.repair

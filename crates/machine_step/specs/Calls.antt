@@ -6,12 +6,16 @@ pub mod Get
 pub mod Delete
 pub mod Settle
 pub mod SetFree
+pub mod Statement
 pub mod PlanAudit
 pub mod EndAudit
 pub mod PlanRecheck
 pub mod EndRecheck
 pub mod PlanRepair
 pub mod EndRepair
+pub mod TallyHour
+pub mod CloseMonth
 pub mod Exit
 pub mod PlanExit
 pub mod EndExit
+pub mod SetRates

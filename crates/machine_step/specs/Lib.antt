@@ -5,6 +5,7 @@ pub mod Containment
 pub mod Health
 pub mod Plans
 pub mod Mending
+pub mod Stored
 pub mod Calls
 pub mod Step
 pub mod Rules
@@ -12,4 +13,5 @@ pub mod PlanRules
 pub mod Sound
 pub mod Broken
 pub mod Bounds
+pub mod Closed
 pub mod Writable

@@ -1,5 +1,5 @@
--- The rules of marks, nodes, customers, segments, settled rows, kept requests and tariffs.
-use Rattle.std.specs.Prelude.{ℕ, suc, ◌+◌, ◌/◌, Bool, true, false, ◌==◌, ◌&&◌, ◌||◌, not, nat_lt, nat_le, if◌then◌else◌, List, [], ◌∷◌, ◌++◌, length, min, Option, Some, None, is_some}
+-- The rules of marks, nodes, customers, segments, settled rows, tallies, statements, kept requests and tariffs.
+use Rattle.std.specs.Prelude.{ℕ, suc, ◌+◌, ◌/◌, ◌^◌, Bool, true, false, ◌==◌, ◌&&◌, ◌||◌, not, nat_lt, nat_le, if◌then◌else◌, List, [], ◌∷◌, ◌++◌, length, Option, Some, None, is_some}
 use Rattle.std.specs.List.{list_any, list_all}
 use Rattle.sat_base.specs.declared.limits.TheConstants as limits
 use Rattle.sat_base.specs.declared.ids.NodeId.{NodeId}
@@ -17,10 +17,14 @@ use Rattle.sat_base.specs.declared.rates.Tariff.{Tariff}
 use Rattle.sat_base.specs.Month.{first_day}
 use Rattle.sat_base.specs.Ranks.{tariff_rank}
 use Rattle.rows.specs.Rows.{row_at}
+pub use Rattle.rows.specs.Least.{least_with, least}
 use Rattle.node_registry.specs.declared.node.Node.{Node}
 use Rattle.node_registry.specs.Registry.{node_at}
 use Rattle.segment_core.specs.Record.{SegmentRecord}
 use Rattle.settlement.specs.declared.row.SettledRow.{SettledRow}
+use Rattle.tally_payout.specs.declared.amounts.Tally.{Tally}
+use Rattle.month_pay.specs.Ledger.{Ledger}
+use Rattle.month_pay.specs.Rule.{broken_places}
 use Rattle.machine_step.specs.Tables.{Setup, is_no_size, customer_at}
 use Rattle.machine_step.specs.Places.{subnets_of}
 
@@ -111,6 +115,23 @@ is_sound_settled marks nodes row = is_known nodes row.node && nat_le row.at mark
 abbrev pub breaks_settled : Setup → Marks → List Node → ℕ → SettledRow → Bool
 breaks_settled setup marks nodes i row = nat_le setup.caps.settled i || not (is_sound_settled marks nodes row)
 
+-- ---- rule 6: the tallies
+
+-- an hour that was tallied, and no more bytes than segments can have
+abbrev pub is_sound_tally : Marks → List Node → Tally → Bool
+is_sound_tally marks nodes tally =
+    is_known nodes tally.node && (nat_lt tally.hour.0 marks.hour.0 && (nat_le 1 tally.bytes && nat_le tally.bytes (2 ^ 44)))
+
+-- they number at most the cap
+abbrev pub breaks_tally : Setup → Marks → List Node → ℕ → Tally → Bool
+breaks_tally setup marks nodes i tally = nat_le setup.caps.tallies i || not (is_sound_tally marks nodes tally)
+
+-- ---- rule 7: the statements
+
+-- the first month and node, as one number, whose statement breaks the rule or is missing
+abbrev pub bad_statement : Setup → Ledger → Option ℕ
+bad_statement setup ledger = least (broken_places setup.caps.statements ledger)
+
 -- ---- rule 10: the kept requests
 
 -- nodes and customers are added by the operator, and the rest is asked by a known customer
@@ -161,14 +182,6 @@ bad_tariffs first i (tariff ∷ rest) =
 -- the first month, where no tariff begins in it
 abbrev pub missing_tariff : ℕ → List Tariff → List ℕ
 missing_tariff first tariffs = if is_some (row_at tariff_rank tariffs first) then [] else first ∷ []
-
-abbrev pub least_with : ℕ → Option ℕ → ℕ
-least_with x None = x
-least_with x (Some y) = min x y
-
-abbrev pub least : List ℕ → Option ℕ
-least [] = None
-least (x ∷ rest) = Some (least_with x (least rest))
 
 -- the first month whose tariff breaks the rule or is missing
 abbrev pub bad_tariff : ℕ → List Tariff → Option ℕ

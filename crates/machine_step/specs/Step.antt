@@ -1,8 +1,9 @@
 -- The step of the machine: what comes of each call, and the tables after it.
-use Rattle.std.specs.Prelude.{◌≡◌, ℕ, ◌^◌, ◌<◌, Bool, true, false, ◌||◌, length, max, if◌then◌else◌}
+use Rattle.std.specs.Prelude.{◌≡◌, ℕ, ◌^◌, ◌<◌, Bool, true, false, ◌||◌, length, max, slice_index_or, if◌then◌else◌}
 use Rattle.sat_base.specs.declared.limits.TheConstants as limits
 use Rattle.sat_base.specs.declared.ids.CustomerId.{CustomerId}
 use Rattle.sat_base.specs.declared.scheme.Scheme.{Scheme}
+use Rattle.sat_base.specs.Limits.{IsTariffWithin}
 use Rattle.repair_core.specs.declared.outcome.RepairOutcome.{RepairOutcome}
 use Rattle.repair_core.specs.declared.outcome.RepairOutcome.TheVariants as repairs
 use Rattle.machine_calls.specs.declared.asking.Asking.{Asking}
@@ -23,15 +24,19 @@ use Rattle.machine_step.specs.Calls.Get.{get}
 use Rattle.machine_step.specs.Calls.Delete.{delete}
 use Rattle.machine_step.specs.Calls.Settle.{settle}
 use Rattle.machine_step.specs.Calls.SetFree.{set_free}
+use Rattle.machine_step.specs.Calls.Statement.{statement}
 use Rattle.machine_step.specs.Calls.PlanAudit.{plan_audit}
 use Rattle.machine_step.specs.Calls.EndAudit.{end_audit}
 use Rattle.machine_step.specs.Calls.PlanRecheck.{plan_recheck}
 use Rattle.machine_step.specs.Calls.EndRecheck.{end_recheck}
 use Rattle.machine_step.specs.Calls.PlanRepair.{plan_repair}
 use Rattle.machine_step.specs.Calls.EndRepair.{end_repair}
+use Rattle.machine_step.specs.Calls.TallyHour.{tally_hour}
+use Rattle.machine_step.specs.Calls.CloseMonth.{close_month}
 use Rattle.machine_step.specs.Calls.Exit.{exit}
 use Rattle.machine_step.specs.Calls.PlanExit.{plan_exit}
 use Rattle.machine_step.specs.Calls.EndExit.{end_exit}
+use Rattle.machine_step.specs.Calls.SetRates.{set_rates}
 
 -- the moment of a call: no earlier than that of an accepted one
 abbrev pub risen : Tables → ℕ → ℕ
@@ -55,15 +60,19 @@ case_of t (calls.Get now customer request segment) = get t (asking t customer re
 case_of t (calls.Delete now customer request segment) = delete t (asking t customer request now) segment
 case_of t (calls.Settle now node bytes) = settle t (risen t now) node bytes
 case_of t (calls.SetFree now node free) = set_free t (risen t now) node free
+case_of t (calls.Statement node month) = statement t node month
 case_of t (calls.PlanAudit now words) = plan_audit t (risen t now) words
 case_of t (calls.EndAudit now judged) = end_audit t (risen t now) judged
 case_of t (calls.PlanRecheck now) = plan_recheck t (risen t now)
 case_of t (calls.EndRecheck now plan checked) = end_recheck t (risen t now) plan checked
 case_of t (calls.PlanRepair now words) = plan_repair t (risen t now) words
 case_of t (calls.EndRepair now outcome) = end_repair t (risen t now) outcome
+case_of t (calls.TallyHour now) = tally_hour t (risen t now)
+case_of t (calls.CloseMonth now month) = close_month t (risen t now) month
 case_of t (calls.Exit now node) = exit t (risen t now) node
 case_of t (calls.PlanExit now words) = plan_exit t (risen t now) words
 case_of t (calls.EndExit now outcome) = end_exit t (risen t now) outcome
+case_of t (calls.SetRates now month rates) = set_rates t (risen t now) month rates
 case_of t calls.Stop = unchanged replies.Stopping
 
 -- and behind each step the containments whose footing is gone are gone
@@ -93,15 +102,19 @@ moment_of (calls.Get now customer request segment) = now
 moment_of (calls.Delete now customer request segment) = now
 moment_of (calls.Settle now node bytes) = now
 moment_of (calls.SetFree now node free) = now
+moment_of (calls.Statement node month) = 0
 moment_of (calls.PlanAudit now words) = now
 moment_of (calls.EndAudit now judged) = now
 moment_of (calls.PlanRecheck now) = now
 moment_of (calls.EndRecheck now plan checked) = now
 moment_of (calls.PlanRepair now words) = now
 moment_of (calls.EndRepair now outcome) = now
+moment_of (calls.TallyHour now) = now
+moment_of (calls.CloseMonth now month) = now
 moment_of (calls.Exit now node) = now
 moment_of (calls.PlanExit now words) = now
 moment_of (calls.EndExit now outcome) = now
+moment_of (calls.SetRates now month rates) = now
 moment_of calls.Stop = 0
 
 -- a call has as many words as it takes
@@ -112,10 +125,22 @@ HasItsWords (calls.PlanRepair now words) = length words ≡ limits.WORDS
 HasItsWords (calls.PlanExit now words) = length words ≡ limits.WORDS
 HasItsWords _ = Unit {0}
 
+-- an order that is presented is of bytes
+abbrev pub HasBytes : Call → Type 0
+HasBytes (calls.Settle now node bytes) = (i : ℕ) → slice_index_or bytes i 0 < 256
+HasBytes _ = Unit {0}
+
+-- rates and their month are ones that a tariff may have
+abbrev pub HasTariff : Call → Type 0
+HasTariff (calls.SetRates now month rates) = IsTariffWithin (record { from = month; rates = rates })
+HasTariff _ = Unit {0}
+
 -- what a call is to be by itself
 pub record IsFormed (call : Call) : Type 0 where
   pub timely : moment_of call < 2 ^ 36
   pub words : HasItsWords call
+  pub bytes : HasBytes call
+  pub tariff : HasTariff call
 
 -- a scheme is the one that a store is set up with
 pub record IsSchemeOf (setup : Setup) (scheme : Scheme) : Type 0 where

@@ -26,6 +26,7 @@ use Rattle.tally_payout.specs.declared.amounts.Tally.{Tally}
 use Rattle.tally_payout.specs.declared.amounts.Statement.{Statement}
 use Rattle.tally_payout.specs.Ranks.{tally_rank, statement_rank}
 use Rattle.node_registry.specs.Left.{left_rank}
+use Rattle.month_pay.specs.Ledger.{Ledger}
 use Rattle.audit_core.specs.declared.plan.AuditPlan.{AuditPlan}
 use Rattle.audit_core.specs.declared.rechecking.RecheckPlan.{RecheckPlan}
 use Rattle.repair_core.specs.declared.plan.RepairPlan.{RepairPlan}
@@ -81,6 +82,19 @@ pub record Tables : Type 0 where
   pub tariffs : List Tariff
   -- whether the machine was stopped, which is no record
   pub stopped : Bool
+
+-- what the pay of months goes by
+abbrev pub ledger_of : Tables → Ledger
+ledger_of t = record {
+  first = t.setup.first_month;
+  next = t.marks.month.0;
+  nodes = t.nodes;
+  settled = t.settled;
+  tallies = t.tallies;
+  left = t.left;
+  tariffs = t.tariffs;
+  statements = t.statements;
+}
 
 -- the most bytes of a segment: as many whole stripes as a piece of 4 MiB has shares
 abbrev pub max_len_of : Setup → ℕ

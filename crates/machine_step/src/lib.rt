@@ -13,9 +13,11 @@
 //! - [`each_step_keeps_the_rules`]: with the order of the rows and the bounds of the records, for a call that is well
 //!   formed.
 //! - [`each_change_can_be_written`]: what a step changes is within what a store's records hold.
-//!
-//! The tables name all sixteen kinds of records. Of tallies and statements, which no call makes yet, the rules say that
-//! there are none.
+//! - [`a_closed_month_stays`]: neither its sums nor its statements change.
+//! - [`pay_is_conserved`]: what was paid, returned and is held of a node is what it earned, by the tariff, on the rows
+//!   of each month.
+//! - [`a_close_stays_in_bounds`], and [`stored_bytes_follow_the_segments`]: what code that closes months and tallies
+//!   hours goes by.
 //!
 //! Not promised here: that code does so. That is `sat_machine`.
 #![tactic(auto)]
@@ -23,6 +25,7 @@
 mod laws;
 
 pub use laws::{
-    a_refusal_changes_nothing, each_change_can_be_written, each_step_is_answered,
-    each_step_keeps_the_rules,
+    a_close_stays_in_bounds, a_closed_month_stays, a_refusal_changes_nothing,
+    each_change_can_be_written, each_step_is_answered, each_step_keeps_the_rules, pay_is_conserved,
+    stored_bytes_follow_the_segments,
 };

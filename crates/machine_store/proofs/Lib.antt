@@ -7,3 +7,7 @@ pub mod LostLemmas
 pub mod HealthLemmas
 pub mod WalkLemmas
 pub mod PieceLemmas
+pub mod PaidBounds
+pub mod PaidLemmas
+pub mod PlacedLemmas
+pub mod KeptLemmas

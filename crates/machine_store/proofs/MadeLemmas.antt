@@ -1,5 +1,5 @@
 -- The tables that are kept are those of the records.
-use Rattle.std.proofs.Common.{◌≡◌, false, List, [], Option, None, sym, ap, ◌∙◌}
+use Rattle.std.proofs.Common.{◌≡◌, false, List, Option, ap, ◌∙◌}
 use Rattle.node_registry.specs.declared.node.Node.{Node}
 use Rattle.sat_base.specs.declared.settings.Settings.{Settings}
 use Rattle.sat_base.specs.declared.records.Containment.{Containment}
@@ -19,9 +19,7 @@ use Rattle.machine_step.specs.Tables.{Setup, Tables, setup_of}
 use Rattle.sat_base.specs.declared.settings.Marks.{Marks}
 use Rattle.sat_base.specs.declared.settings.Customer.{Customer}
 use Rattle.machine_step.specs.Health.{first_of}
-use Rattle.machine_step.specs.Broken.{broken_tallies, broken_statements}
 use Rattle.machine_store.specs.Opening.{tables_made}
-use Rattle.machine_store.proofs.OpeningLemmas.{none_mapped, none_first_of}
 
 -- tables of these parts
 abbrev tables_in : Setup → Marks → List Node → List Customer → List SegmentRecord → List SettledRow → List Tally → List Statement → Option AuditPlan → Option RecheckPlan → Option RepairPlan → List Containment → List Kept → Option ExitPlan → List Left → List Tariff → Tables
@@ -46,17 +44,15 @@ tables_equal setup marks a0 b0 a1 b1 a2 b2 a3 b3 a4 b4 a5 b5 a6 b6 a7 b7 a8 b8 a
     ∙ ap (λ (x : List Left). tables_in setup marks b0 b1 b2 b3 b4 b5 b6 b7 b8 b9 b10 b11 x a13) e12
     ∙ ap (λ (x : List Tariff). tables_in setup marks b0 b1 b2 b3 b4 b5 b6 b7 b8 b9 b10 b11 b12 x) e13
 
--- the tables that are kept, where there are no tallies and statements
-module _ (settings : Settings) (marks : Marks) (parts : Parts0) (tallies : broken_tallies parts.tallies.items ≡ None) (statements : broken_statements parts.statements.items ≡ None) where
-  pub tables_same : (nodes : List Node) (customers : List Customer) (segments : List SegmentRecord) (settled : List SettledRow) (audit : Option AuditPlan) (recheck : Option RecheckPlan) (repair : Option RepairPlan)
-      (containments : List Containment) (kept : List Kept) (exit : Option ExitPlan) (left : List Left) (tariffs : List Tariff)
-      → nodes ≡ parts.nodes.items → customers ≡ parts.customers.items → segments ≡ parts.segments.items → settled ≡ parts.settled.items
+-- the tables that are kept
+module _ (settings : Settings) (marks : Marks) (parts : Parts0) where
+  pub tables_same : (nodes : List Node) (customers : List Customer) (segments : List SegmentRecord) (settled : List SettledRow) (tallies : List Tally) (statements : List Statement)
+      (audit : Option AuditPlan) (recheck : Option RecheckPlan) (repair : Option RepairPlan) (containments : List Containment) (kept : List Kept) (exit : Option ExitPlan) (left : List Left) (tariffs : List Tariff)
+      → nodes ≡ parts.nodes.items → customers ≡ parts.customers.items → segments ≡ parts.segments.items → settled ≡ parts.settled.items → tallies ≡ parts.tallies.items → statements ≡ parts.statements.items
       → audit ≡ first_of parts.audit_plans.items → recheck ≡ first_of parts.recheck_plans.items → repair ≡ first_of parts.repair_plans.items
       → containments ≡ parts.containments.items → kept ≡ parts.kept.items → exit ≡ first_of parts.exit_plans.items → left ≡ parts.left.items → tariffs ≡ parts.tariffs.items
-      → tables_in (setup_of settings) marks nodes customers segments settled [] [] audit recheck repair containments kept exit left tariffs ≡ tables_made settings marks parts
-  tables_same nodes customers segments settled audit recheck repair containments kept exit left tariffs n c s d a r p o k x l f =
-      let no_tallies : parts.tallies.items ≡ [] = none_first_of parts.tallies.items (none_mapped _ _ tallies) in
-      let no_statements : parts.statements.items ≡ [] = none_first_of parts.statements.items (none_mapped _ _ statements) in
-      tables_equal (setup_of settings) marks nodes parts.nodes.items customers parts.customers.items segments parts.segments.items settled parts.settled.items [] parts.tallies.items [] parts.statements.items
+      → tables_in (setup_of settings) marks nodes customers segments settled tallies statements audit recheck repair containments kept exit left tariffs ≡ tables_made settings marks parts
+  tables_same nodes customers segments settled tallies statements audit recheck repair containments kept exit left tariffs n c s d y z a r p o k x l f =
+      tables_equal (setup_of settings) marks nodes parts.nodes.items customers parts.customers.items segments parts.segments.items settled parts.settled.items tallies parts.tallies.items statements parts.statements.items
       audit (first_of parts.audit_plans.items) recheck (first_of parts.recheck_plans.items) repair (first_of parts.repair_plans.items) containments parts.containments.items kept parts.kept.items exit (first_of parts.exit_plans.items) left parts.left.items tariffs parts.tariffs.items
-      n c s d (sym no_tallies) (sym no_statements) a r p o k x l f
+      n c s d y z a r p o k x l f

@@ -8,7 +8,7 @@ use Rattle.node_registry.specs.Registry.{CountsFrom}
 use Rattle.sat_base.specs.declared.settings.Settings.{Settings}
 use Rattle.machine_calls.specs.declared.parts.Parts0.{Parts0}
 use Rattle.sat_base.specs.Limits.{AreMarksWithin}
-use Rattle.machine_step.specs.Bounds.{Each, IsSetupWithin, IsAuditWithin, IsRepairWithin, IsExitWithin, IsValid}
+use Rattle.machine_step.specs.Bounds.{Each, IsSetupWithin, IsSettledWithin, IsAuditWithin, IsRepairWithin, IsExitWithin, IsValid}
 use Rattle.machine_step.specs.Tables.{Setup, Tables, setup_of}
 use Rattle.sat_base.specs.declared.settings.Marks.{Marks}
 use Rattle.rows.specs.Rows.{row_at, added, AllAbove, IsRising}
@@ -69,12 +69,7 @@ pub none_mapped : {R : Type 0} (f : R → Broken) (o : Option R) → option_map 
 none_mapped f None is = refl
 none_mapped f (Some row) is = cc
 
--- a list without a first row has none
-pub none_first_of : {R : Type 0} (rows : List R) → first_of rows ≡ None → rows ≡ []
-none_first_of [] is = refl
-none_first_of (row ∷ rows) is = cc
-
-marks_kept : (setup : Setup) (marks : Marks) → broken_marks setup marks ≡ None → are_sound_marks setup marks ≡ true
+pub marks_kept : (setup : Setup) (marks : Marks) → broken_marks setup marks ≡ None → are_sound_marks setup marks ≡ true
 marks_kept setup marks is = grind (arith, nat_tests, is)
 
 plan_kept : {P : Type 0} (rule kind : ℕ) (sound : P → Bool) (plan : Option P) → broken_plan rule kind sound plan ≡ None → is_none_or sound plan ≡ true
@@ -107,8 +102,8 @@ sound_unbroken t is =
       customers = none_mapped _ _ (none_first _ _ r3);
       segments = none_mapped _ _ (none_first _ _ r4);
       settled = none_mapped _ _ (none_first _ _ r5);
-      tallies = none_first_of t.tallies (none_mapped _ _ (none_first _ _ r6));
-      statements = none_first_of t.statements (none_mapped _ _ (none_first _ _ r7));
+      tallies = none_mapped _ _ (none_first _ _ r6);
+      statements = none_mapped _ _ (none_first _ _ r7);
       audit = plan_kept _ _ (is_sound_audit t.setup t.marks t.segments) t.audit (none_first _ _ r8);
       recheck = plan_kept _ _ (is_sound_recheck t.marks t.nodes) t.recheck (none_first _ _ r8_recheck);
       repair = plan_kept _ _ (is_sound_repair t.setup t.marks t.nodes t.segments) t.repair (none_first _ _ r8_repair);
@@ -196,6 +191,7 @@ rules_kept parts settings marks s are setup_within marks_within unbroken tables 
         setup = setup_within;
         marks = marks_within;
         segments = are.segments_within;
+        settled = subst (Each IsSettledWithin) (ap (λ (t : Tables). t.settled) tables) own.pay.small;
         audit = first_within IsAuditWithin parts.audit_plans.items are.audit_within;
         repair = first_within IsRepairWithin parts.repair_plans.items are.repair_within;
         kept = are.kept_within;

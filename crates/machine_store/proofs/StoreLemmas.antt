@@ -50,7 +50,8 @@ module _ (s : Store) (nodes : Nodes) (index : Indexed) (gone : index.gone ≡ s.
   pub kept-beside : ((node : Node) → IsNodePlaced s.nodes node → IsNodePlaced nodes node) → ((segment : SegmentRecord) → IsSegmentPlaced s.segments segment → IsSegmentPlaced index segment)
       → (c : RecChange) → IsPlaced s c → IsPlaced (record s { nodes = nodes; segments = index }) c
   kept-beside keeps others (changes.Node r) placed = (keeps r placed.0, subst (λ (g : List NodeId). StaysLost g r) (sym gone) placed.1)
-  kept-beside keeps others (changes.Segment r) placed = others r placed
+  kept-beside keeps others (changes.Segment r) placed = record { index = others r placed.index; pieces = placed.pieces; short = placed.short }
+  kept-beside keeps others (changes.SettledRow r) placed = record { row = placed.row; order = placed.order }
   kept-beside keeps others c placed = placed
 
 pub on_ok : {T E : Type 0} {P : Type 0} (r : Result T E) → P → OnOk r P

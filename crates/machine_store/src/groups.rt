@@ -1,21 +1,27 @@
 // The tables by groups, each tested in the order of the rules.
-ghost use Rattle.std.specs.Prelude.{◌≡◌, ◌≤◌, length, IfOk};
+ghost use Rattle.std.specs.Prelude.{◌≡◌, ◌≤◌, true, length, IfOk};
+ghost use Rattle.sat_base.specs.Limits.{IsTariffWithin};
 ghost use Rattle.sat_base.specs.Ranks.{containment_rank, customer_rank, kept_rank, tariff_rank};
-ghost use Rattle.rows.specs.Rows.{IsRising};
+ghost use Rattle.rows.specs.Rows.{Each, IsRising};
 ghost use Rattle.node_registry.specs.Left.{left_rank};
 ghost use Rattle.segment_core.specs.Record.{segment_rank};
 ghost use Rattle.settlement.specs.Rows.{key};
+ghost use Rattle.tally_payout.specs.Ranks.{tally_rank, statement_rank};
 ghost use Rattle.machine_step.specs.Bounds.{IsSetupWithin};
 ghost use Rattle.machine_step.specs.Broken.{first_some};
 ghost use Rattle.machine_step.specs.Health.{first_of};
+ghost use Rattle.machine_step.specs.PlanRules.{bad_left};
+ghost use Rattle.machine_step.specs.Rules.{are_sound_marks};
 ghost use Rattle.machine_step.specs.Tables.{setup_of};
-ghost use Rattle.machine_store.specs.Groups.{base_tests, work_tests, rest_tests};
+ghost use Rattle.machine_store.specs.Groups.{base_tests, work_tests, rest_tests, AreBaseOf, IsIndexed, IsPaid};
 ghost use Rattle.machine_store.specs.Opening.{Tests};
-ghost use Rattle.machine_store.specs.Store.{limits_of, KnowsLost};
 
-use crate::opening::CoreErr;
-use crate::standing::{audit_of, containments_of, exit_of, left_of, recheck_of, repair_of};
-use crate::tables::{customers_of, kept_of, nodes_of, segments_of, settled_of, tariffs_of};
+use crate::opening::{CoreErr, test_segments};
+use crate::paid::{Paid, PaidBy, PaidRows, paid_of};
+use crate::standing::{
+    LeftFound, audit_of, containments_of, exit_of, left_found, recheck_of, repair_of, test_left,
+};
+use crate::tables::{customers_of, index_of, kept_of, nodes_of, tariffs_of};
 use audit_core::{AuditPlan, RecheckPlan};
 use node_registry::{Left, Node, NodeTable};
 use repair_core::{ExitPlan, RepairPlan};
@@ -23,16 +29,16 @@ use rows::SlottedRows;
 use sat_base::{Containment, Customer, Kept, Marks, Settings, Tariff};
 use segment_core::Segment;
 use segment_index::SegmentIndex;
-use settlement::{Settled, SettledRow};
 use std::alloc::Global;
 
-// The records that others are tested against, and settled orders.
+// The records that others are tested against, and those that pay goes by.
 #[derive(Drop)]
 pub(crate) struct BaseRows {
     pub nodes: Vec<Node>,
     pub customers: Vec<Customer>,
     pub segments: Vec<Segment>,
-    pub settled: Vec<SettledRow>,
+    pub left: Vec<Left>,
+    pub paid: PaidRows,
 }
 
 // Their tables.
@@ -41,7 +47,8 @@ pub(crate) struct Base {
     pub nodes: NodeTable,
     pub customers: SlottedRows<Customer>,
     pub segments: SegmentIndex,
-    pub settled: Settled,
+    pub left: LeftFound,
+    pub paid: Paid,
 }
 
 // The records of the satellite's own work.
@@ -67,7 +74,6 @@ pub(crate) struct Work {
 pub(crate) struct RestRows {
     pub kept: Vec<Kept>,
     pub exit_plans: Vec<ExitPlan>,
-    pub left: Vec<Left>,
     pub tariffs: Vec<Tariff>,
 }
 
@@ -76,7 +82,6 @@ pub(crate) struct RestRows {
 pub(crate) struct Rest {
     pub kept: SlottedRows<Kept>,
     pub exit: Option<ExitPlan>,
-    pub left: SlottedRows<Left>,
     pub tariffs: SlottedRows<Tariff>,
 }
 
@@ -84,36 +89,58 @@ pub(crate) fn base_of(
     alloc: Global,
     settings: &Settings,
     marks: &Marks,
+    tariffs: &[Tariff],
     rows: BaseRows,
 ) -> Result<Base, CoreErr>
     requires setup { IsSetupWithin (setup_of settings.now) }
+    requires marks { are_sound_marks (setup_of settings.now) marks.now ≡ true }
+    requires tariffs { Each IsTariffWithin tariffs.now }
     requires customers { IsRising customer_rank rows.customers.items }
     requires segments { IsRising segment_rank rows.segments.items }
-    requires settled { IsRising key rows.settled.items }
-    ensures rules { Tests result (first_some (base_tests (setup_of settings.now) marks.now rows.nodes.items rows.customers.items rows.segments.items rows.settled.items)) }
-    ensures nodes { IfOk result (λ base. base.nodes.nodes ≡ rows.nodes.items) }
-    ensures customers { IfOk result (λ base. base.customers.rows ≡ rows.customers.items) }
-    ensures segments { IfOk result (λ base. base.segments.rows ≡ rows.segments.items) }
-    ensures settled { IfOk result (λ base. base.settled.rows ≡ rows.settled.items) }
-    ensures cap { IfOk result (λ base. base.settled.cap ≡ settings.now.caps.settled) }
-    ensures limits { IfOk result (λ base. base.segments.limits ≡ limits_of settings.now) }
-    ensures lost { IfOk result (λ base. KnowsLost base.nodes.nodes base.segments) }
+    requires left { IsRising left_rank rows.left.items }
+    requires settled { IsRising key rows.paid.settled.items }
+    requires tallies { IsRising tally_rank rows.paid.tallies.items }
+    requires statements { IsRising statement_rank rows.paid.statements.items }
+    ensures rules { Tests result (first_some (base_tests (setup_of settings.now) marks.now rows.nodes.items rows.customers.items
+        rows.segments.items rows.paid.settled.items rows.paid.tallies.items rows.paid.statements.items rows.left.items
+        tariffs.now)) }
+    ensures tables { IfOk result (λ base. AreBaseOf rows base) }
+    ensures index { IfOk result (λ base. IsIndexed settings.now base) }
+    ensures worst { IfOk result (λ base. base.left.worst ≡ bad_left marks.now base.nodes.nodes base.left.rows.rows) }
+    ensures step { IfOk result (λ base. IsPaid settings.now base) }
 {
     let BaseRows {
         nodes,
         customers,
         segments,
-        settled,
+        left,
+        paid,
     } = rows;
     let nodes = nodes_of(alloc, settings, marks, nodes)?;
     let customers = customers_of(alloc, settings, marks, customers)?;
-    let segments = segments_of(alloc, settings, marks, &nodes, &customers, segments)?;
-    let settled = settled_of(alloc, settings, marks, &nodes, settled)?;
+    test_segments(
+        alloc,
+        settings,
+        marks,
+        &nodes,
+        &customers,
+        segments.as_slice(),
+    )?;
+    let left = left_found(alloc, marks, &nodes, left)?;
+    let by = PaidBy {
+        nodes: &nodes,
+        segments: segments.as_slice(),
+        left: &left.rows,
+        tariffs,
+    };
+    let paid = paid_of(alloc, settings, marks, &by, paid)?;
+    let segments = index_of(alloc, settings, &nodes, segments)?;
     Ok(Base {
         nodes,
         customers,
         segments,
-        settled,
+        left,
+        paid,
     })
 }
 
@@ -166,34 +193,32 @@ pub(crate) fn rest_of(
 ) -> Result<Rest, CoreErr>
     requires kept { IsRising kept_rank rows.kept.items }
     requires one_exit { length rows.exit_plans.items ≤ 1 }
-    requires left { IsRising left_rank rows.left.items }
+    requires left { base.now.left.worst ≡ bad_left marks.now base.now.nodes.nodes base.now.left.rows.rows }
     requires tariffs { IsRising tariff_rank rows.tariffs.items }
-    ensures rules { Tests result (first_some (rest_tests (setup_of settings.now) marks.now base.now.nodes.nodes base.now.customers.rows base.now.segments.rows rows.kept.items rows.exit_plans.items rows.left.items rows.tariffs.items)) }
+    ensures rules { Tests result (first_some (rest_tests (setup_of settings.now) marks.now base.now.nodes.nodes base.now.customers.rows base.now.segments.rows rows.kept.items rows.exit_plans.items base.now.left.rows.rows rows.tariffs.items)) }
     ensures kept { IfOk result (λ rest. rest.kept.rows ≡ rows.kept.items) }
     ensures exit { IfOk result (λ rest. rest.exit ≡ first_of rows.exit_plans.items) }
-    ensures left { IfOk result (λ rest. rest.left.rows ≡ rows.left.items) }
     ensures tariffs { IfOk result (λ rest. rest.tariffs.rows ≡ rows.tariffs.items) }
 {
     let RestRows {
         kept,
         exit_plans,
-        left,
         tariffs,
     } = rows;
     let Base {
         nodes,
         customers,
         segments,
+        left,
         ..
     } = base;
     let kept = kept_of(alloc, marks, nodes, customers, kept)?;
     let exit = exit_of(alloc, settings, marks, nodes, segments, exit_plans)?;
-    let left = left_of(alloc, marks, nodes, left)?;
+    test_left(alloc, left.worst)?;
     let tariffs = tariffs_of(alloc, settings.first_month, tariffs)?;
     Ok(Rest {
         kept,
         exit,
-        left,
         tariffs,
     })
 }

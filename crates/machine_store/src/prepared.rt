@@ -1,5 +1,6 @@
 // What a prepared step holds, and the common ends of steps.
 ghost use Rattle.std.specs.Prelude.{◌≡◌, ◌∷◌, [], IfOk, option_to_list};
+ghost use Rattle.machine_calls.specs.declared.change.RecChange.TheVariants as changes;
 ghost use Rattle.machine_calls.specs.declared.refusal.Refusal.TheVariants as refusals;
 ghost use Rattle.machine_step.specs.Outcome.{unchanged, refused, accepted, done_with};
 ghost use Rattle.machine_store.specs.Prepared.{Holds};
@@ -51,6 +52,31 @@ pub fn accepted(
     let mut changes = Vec::new(alloc);
     changes.push(RecChange::Marks(marks))?;
     changes.push(put)?;
+    Ok(Prepared { reply, changes })
+}
+
+// The marks, and behind them these records.
+fn with_marks(alloc: Global, marks: Marks, puts: Vec<RecChange>) -> Result<Vec<RecChange>, NoMemory>
+    ensures { IfOk result (λ cs. cs.items ≡ changes.Marks marks ∷ puts.items) }
+{
+    let mut changes = Vec::new(alloc);
+    changes.push(RecChange::Marks(marks))?;
+    for put in puts {
+        changes.push(put)?;
+    }
+    Ok(changes)
+}
+
+// The marks are put, and then all these records.
+pub fn accepted_all(
+    alloc: Global,
+    marks: Marks,
+    puts: Vec<RecChange>,
+    reply: Reply,
+) -> Result<Prepared, NoMemory>
+    ensures { IfOk result (λ p. Holds p (accepted marks puts.items reply)) }
+{
+    let changes = with_marks(alloc, marks, puts)?;
     Ok(Prepared { reply, changes })
 }
 

@@ -1,16 +1,22 @@
 // What calls look for in the tables.
-ghost use Rattle.std.specs.Prelude.{◌≡◌, ◌≤◌, [], length, filter, slice_get, option_copied};
+ghost use Rattle.std.specs.Prelude.{◌≡◌, ◌≤◌, [], length, filter, slice_get, option_copied, IfOk};
 ghost use Rattle.segment_core.specs.Health.{is_healthy};
+ghost use Rattle.month_sums.specs.Closing.{GoByPots};
 ghost use Rattle.machine_step.specs.Bounds.{IsValid};
 ghost use Rattle.machine_step.specs.Calls.PlanExit.{is_exiting, exiting_nodes, is_movable};
 ghost use Rattle.machine_step.specs.Calls.PlanRepair.{to_repair};
 ghost use Rattle.machine_step.specs.Health.{first_of, live_segments, picked};
+ghost use Rattle.machine_step.specs.PlanRules.{is_exited};
+ghost use Rattle.machine_step.specs.Stored.{stored_bytes};
+ghost use Rattle.machine_step.specs.Tables.{ledger_of};
 ghost use Rattle.machine_store.specs.Store.{tables_of, GoesByTables};
 
 use crate::store::Store;
 use node_registry::{Node, NodeTable, Status};
-use sat_base::{At, NodeId};
+use pay_tables::kept_pots_go_by_a_ledger;
+use sat_base::{At, NoMemory, NodeId};
 use segment_core::Segment;
+use std::alloc::Global;
 
 // How many segments are live.
 pub fn live_count(store: &Store) -> usize
@@ -109,4 +115,33 @@ pub fn exiting_at(store: &Store, word: u64) -> Option<&Node>
         return None;
     }
     exiting_nth(nodes, (word % count as u64) as usize)
+}
+
+fn has_exited(node: &Node) -> bool
+    ensures { result ≡ is_exited node.now.status }
+{
+    matches!(node.status, Status::Exited)
+}
+
+// The bytes that a node stores.
+pub fn stored_at(store: &Store, node: &Node) -> u128
+    requires { GoesByTables store.now }
+    ensures { result ≡ stored_bytes (tables_of store.now).setup (tables_of store.now).segments node.now }
+{
+    if has_exited(node) {
+        0
+    } else {
+        store.pay.stored_at(node.id)
+    }
+}
+
+// What is held of each node, in micro-dollars.
+pub fn pots_of(alloc: Global, store: &Store) -> Result<Vec<u128>, NoMemory>
+    requires valid { IsValid (tables_of store.now) }
+    requires own { GoesByTables store.now }
+    ensures { IfOk result (λ pots. GoByPots (ledger_of (tables_of store.now)) pots.items) }
+{
+    kept_pots_go_by_a_ledger();
+    let pots = store.pay.pots_of(alloc, store.nodes.nodes())?;
+    Ok(pots)
 }

@@ -7,9 +7,9 @@ ghost use Rattle.sat_base.specs.declared.kinds.TheConstants as kinds;
 ghost use Rattle.rows.specs.Rows.{IsRising};
 ghost use Rattle.node_registry.specs.Left.{left_rank};
 ghost use Rattle.machine_calls.specs.declared.rules.TheConstants as rules;
-ghost use Rattle.machine_step.specs.Broken.{broken, broken_plan, broken_containments, broken_left};
+ghost use Rattle.machine_step.specs.Broken.{broken, broken_plan, broken_containments};
 ghost use Rattle.machine_step.specs.Health.{first_of};
-ghost use Rattle.machine_step.specs.PlanRules.{is_sound_audit, is_sound_recheck, is_sound_repair, is_sound_exit, bad_lefts, missing_lefts};
+ghost use Rattle.machine_step.specs.PlanRules.{is_sound_audit, is_sound_recheck, is_sound_repair, is_sound_exit, bad_left, bad_lefts, missing_lefts};
 ghost use Rattle.machine_step.specs.Rules.{least};
 ghost use Rattle.machine_step.specs.Tables.{setup_of};
 ghost use Rattle.machine_store.specs.Opening.{Tests, least_of};
@@ -21,7 +21,7 @@ use machine_calls::rules;
 use node_registry::{Left, NodeTable};
 use repair_core::{ExitPlan, RepairPlan};
 use rows::SlottedRows;
-use sat_base::{Containment, Marks, Settings, kinds};
+use sat_base::{Containment, Marks, NoMemory, Settings, kinds};
 use segment_index::SegmentIndex;
 use std::alloc::Global;
 use table_rules::{
@@ -174,29 +174,35 @@ fn least_of(one: Option<u32>, other: Option<u32>) -> Option<u32>
     }
 }
 
-fn test_left(alloc: Global, worst: Option<u32>) -> Result<(), CoreErr>
+// The nodes that left, and the least one that breaks their rule.
+#[derive(Drop)]
+pub(crate) struct LeftFound {
+    pub rows: SlottedRows<Left>,
+    pub worst: Option<u32>,
+}
+
+pub(crate) fn left_found(
+    alloc: Global,
+    marks: &Marks,
+    nodes: &NodeTable,
+    rows: Vec<Left>,
+) -> Result<LeftFound, NoMemory>
+    requires { IsRising left_rank rows.items }
+    ensures rows { IfOk result (λ found. found.rows.rows ≡ rows.items) }
+    ensures worst { IfOk result (λ found. found.worst ≡ bad_left marks.now nodes.now.nodes rows.items) }
+{
+    let bad = bad_left(marks, nodes, rows.as_slice());
+    let rows = SlottedRows::of(alloc, rows)?;
+    let missing = missing_left(nodes.nodes(), &rows);
+    let worst = least_of(bad, missing);
+    Ok(LeftFound { rows, worst })
+}
+
+pub(crate) fn test_left(alloc: Global, worst: Option<u32>) -> Result<(), CoreErr>
     ensures { Tests result (option_map (λ node. broken rules.LEFT kinds.LEFT (to_be_bytes w32 node)) worst) }
 {
     match worst {
         Some(node) => Err(rule_err(alloc, rules::LEFT, kinds::LEFT, &node.to_be_bytes())),
         None => Ok(()),
     }
-}
-
-pub(crate) fn left_of(
-    alloc: Global,
-    marks: &Marks,
-    nodes: &NodeTable,
-    rows: Vec<Left>,
-) -> Result<SlottedRows<Left>, CoreErr>
-    requires { IsRising left_rank rows.items }
-    ensures rules { Tests result (broken_left marks.now nodes.now.nodes rows.items) }
-    ensures rows { IfOk result (λ table. table.rows ≡ rows.items) }
-{
-    let bad = bad_left(marks, nodes, rows.as_slice());
-    let table = SlottedRows::of(alloc, rows)?;
-    let missing = missing_left(nodes.nodes(), &table);
-    let worst = least_of(bad, missing);
-    test_left(alloc, worst)?;
-    Ok(table)
 }

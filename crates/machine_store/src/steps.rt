@@ -12,6 +12,10 @@ ghost use Rattle.machine_store.specs.Store.{tables_of, GoesByTables, IsNodePlace
 ghost use Rattle.node_registry.specs.declared.node.Node.{Node};
 ghost use Rattle.settlement.specs.declared.row.SettledRow.{SettledRow};
 
+use crate::paying::{
+    place_segment, place_settled, place_statement, place_tally, put_segment, put_settled,
+    put_statement, put_tally, release_paid, remove_segment,
+};
 use crate::prepared::Prepared;
 use crate::store::Store;
 use machine_calls::{RecChange, Reply};
@@ -32,7 +36,7 @@ fn place_node(nodes: &mut NodeTable, node: &Node) -> Result<(), NoMemory>
 }
 
 // Makes room for a settled row.
-fn place_row(settled: &mut Settled, row: &SettledRow) -> Result<(), NoMemory>
+pub(crate) fn place_row(settled: &mut Settled, row: &SettledRow) -> Result<(), NoMemory>
     requires { IsRowPlaceable settled.old.rows settled.old.cap row.now }
     ensures rows { settled.new.rows ≡ settled.old.rows }
     ensures cap { settled.new.cap ≡ settled.old.cap }
@@ -58,7 +62,7 @@ fn put_node(nodes: &mut NodeTable, node: Node)
 }
 
 // Adds a settled row.
-fn put_row(settled: &mut Settled, row: SettledRow)
+pub(crate) fn put_row(settled: &mut Settled, row: SettledRow)
     requires { IsRowPlaced settled.old row }
     ensures rows { settled.new.rows ≡ with_row key settled.old.rows row }
     ensures cap { settled.new.cap ≡ settled.old.cap }
@@ -96,44 +100,44 @@ fn place(store: &mut Store, change: &RecChange) -> Result<(), NoMemory>
         | RecChange::Remove(_) => Ok(()),
         RecChange::Node(node) => place_node(&mut store.nodes, node),
         RecChange::Customer(customer) => store.customers.place(customer.rank()),
-        RecChange::Segment(segment) => store.segments.place(segment),
-        RecChange::SettledRow(row) => place_row(&mut store.settled, row),
+        RecChange::Segment(segment) => place_segment(store, segment),
+        RecChange::SettledRow(row) => place_settled(store, row),
+        RecChange::Tally(tally) => place_tally(store, tally),
+        RecChange::Statement(statement) => place_statement(store, statement),
         RecChange::Containment(row) => store.containments.place(row.rank()),
         RecChange::Kept(kept) => store.kept.place(kept.rank()),
         RecChange::Left(left) => store.left.place(left.rank()),
-        RecChange::Settings(_)
-        | RecChange::Tally(_)
-        | RecChange::Statement(_)
-        | RecChange::Tariff(_) => unreachable!(),
+        RecChange::Tariff(tariff) => store.tariffs.place(tariff.rank()),
+        RecChange::Settings(_) => unreachable!(),
     }
 }
 
-// Gives back the room for a record, where there is no such record. Room for nodes and settled rows has no rank, and
-// serves the next one; no room is made for the others.
+// Gives back the room for a record, where there is no such record. Room for nodes, and for the rows of settled orders,
+// has no rank, and serves the next one; no room is made for the others.
 fn release(store: &mut Store, change: &RecChange)
     ensures tables { tables_of store.new ≡ tables_of store.old }
     ensures own { GoesByTables store.old → GoesByTables store.new }
 {
     match change {
         RecChange::Customer(customer) => store.customers.release(customer.rank()),
-        RecChange::Segment(segment) => store.segments.release(segment),
         RecChange::Containment(row) => store.containments.release(row.rank()),
         RecChange::Kept(kept) => store.kept.release(kept.rank()),
         RecChange::Left(left) => store.left.release(left.rank()),
-        _ => {}
+        RecChange::Tariff(tariff) => store.tariffs.release(tariff.rank()),
+        _ => release_paid(store, change),
     }
 }
 
 // Removes a record.
 fn remove(store: &mut Store, key: Key)
-    requires { IsPlaced store.old (RecChange.Remove key) }
+    requires { GoesByTables store.old }
     ensures tables { tables_of store.new ≡ removed (tables_of store.old) key }
-    ensures own { GoesByTables store.old → GoesByTables store.new }
+    ensures own { GoesByTables store.new }
     ensures keeps { (c : RecChange) → spares (RecChange.Remove key) c ≡ true → IsPlaced store.old c → IsPlaced store.new c }
     ensures losses { store.new.segments.room.lost ≡ store.old.segments.room.lost }
 {
     match key {
-        Key::Segment(id) => store.segments.remove(id),
+        Key::Segment(id) => remove_segment(store, id),
         Key::Plan { kind } => store.plans.close(kind),
         Key::Containment(node) => store.containments.remove(u128::from(node.0)),
     }
@@ -162,8 +166,9 @@ fn put_counted(store: &mut Store, node: Node)
 fn change(store: &mut Store, change: RecChange)
     requires placed { IsPlaced store.old change }
     requires losses { 1 ≤ store.old.segments.room.lost }
+    requires own { GoesByTables store.old }
     ensures tables { tables_of store.new ≡ changed (tables_of store.old) change }
-    ensures own { GoesByTables store.old → GoesByTables store.new }
+    ensures own { GoesByTables store.new }
     ensures keeps { (c : RecChange) → spares change c ≡ true → IsPlaced store.old c → IsPlaced store.new c }
     ensures losses { store.old.segments.room.lost ≤ store.new.segments.room.lost + 1 }
 {
@@ -171,8 +176,10 @@ fn change(store: &mut Store, change: RecChange)
         RecChange::Marks(marks) => store.marks = marks,
         RecChange::Node(node) => put_counted(store, node),
         RecChange::Customer(customer) => store.customers.put(customer),
-        RecChange::Segment(segment) => store.segments.put(segment),
-        RecChange::SettledRow(row) => put_row(&mut store.settled, row),
+        RecChange::Segment(segment) => put_segment(store, segment),
+        RecChange::SettledRow(row) => put_settled(store, row),
+        RecChange::Tally(tally) => put_tally(store, tally),
+        RecChange::Statement(statement) => put_statement(store, statement),
         RecChange::AuditPlan(plan) => store.plans.audit = Some(plan),
         RecChange::RecheckPlan(plan) => store.plans.recheck = Some(plan),
         RecChange::RepairPlan(plan) => store.plans.repair = Some(plan),
@@ -180,11 +187,9 @@ fn change(store: &mut Store, change: RecChange)
         RecChange::Kept(kept) => store.kept.put(kept),
         RecChange::ExitPlan(plan) => store.plans.exit = Some(plan),
         RecChange::Left(left) => store.left.put(left),
+        RecChange::Tariff(tariff) => store.tariffs.put(tariff),
         RecChange::Remove(key) => remove(store, key),
-        RecChange::Settings(_)
-        | RecChange::Tally(_)
-        | RecChange::Statement(_)
-        | RecChange::Tariff(_) => unreachable!(),
+        RecChange::Settings(_) => unreachable!(),
     }
 }
 

@@ -5,6 +5,7 @@ ghost use Rattle.machine_store.specs.Store.{tables_of};
 use crate::plans::Plans;
 use node_registry::{Left, NodeTable};
 use order_limits::Keys;
+use pay_tables::PayTables;
 use rows::SlottedRows;
 use sat_base::{Containment, Customer, CustomerId, Kept, Marks, Moment, SegId, Settings, Tariff};
 use segment_core::Segment;
@@ -22,6 +23,8 @@ pub struct Store {
     pub customers: SlottedRows<Customer>,
     pub segments: SegmentIndex,
     pub settled: Settled,
+    // Tallies and statements, and what is kept beside them.
+    pub pay: PayTables,
     pub plans: Plans,
     pub containments: SlottedRows<Containment>,
     pub kept: SlottedRows<Kept>,

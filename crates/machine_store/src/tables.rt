@@ -3,23 +3,18 @@ ghost use Rattle.std.specs.Prelude.{◌≡◌, [], IfOk};
 ghost use Rattle.sat_base.specs.Ranks.{customer_rank, kept_rank, tariff_rank};
 ghost use Rattle.rows.specs.Rows.{IsRising};
 ghost use Rattle.segment_core.specs.Record.{segment_rank};
-ghost use Rattle.settlement.specs.Rows.{key};
 ghost use Rattle.machine_step.specs.Bounds.{IsSetupWithin};
-ghost use Rattle.machine_step.specs.Broken.{broken_nodes, broken_customers, broken_segments, broken_settled, broken_kept, broken_tariffs};
+ghost use Rattle.machine_step.specs.Broken.{broken_nodes, broken_customers, broken_kept, broken_tariffs};
 ghost use Rattle.machine_step.specs.Tables.{setup_of};
 ghost use Rattle.machine_store.specs.Opening.{Tests};
 ghost use Rattle.machine_store.specs.Store.{limits_of, lost_ids, KnowsLost};
 
-use crate::opening::{
-    CoreErr, node_table, settled_table, test_customers, test_kept, test_nodes, test_segments,
-    test_settled, test_tariffs,
-};
+use crate::opening::{CoreErr, node_table, test_customers, test_kept, test_nodes, test_tariffs};
 use node_registry::{Node, NodeTable};
 use rows::SlottedRows;
 use sat_base::{Customer, Kept, Marks, Month, NoMemory, NodeId, Settings, Tariff};
 use segment_core::Segment;
 use segment_index::{Limits, SegmentIndex};
-use settlement::{Settled, SettledRow};
 use std::alloc::Global;
 
 pub(crate) fn nodes_of(
@@ -72,48 +67,23 @@ fn lost_nodes(alloc: Global, nodes: &[Node]) -> Result<Vec<NodeId>, NoMemory>
     Ok(gone)
 }
 
-pub(crate) fn segments_of(
+// An index of these segments, which knows the nodes whose pieces don't count.
+pub(crate) fn index_of(
     alloc: Global,
     settings: &Settings,
-    marks: &Marks,
     nodes: &NodeTable,
-    customers: &SlottedRows<Customer>,
     segments: Vec<Segment>,
-) -> Result<SegmentIndex, CoreErr>
+) -> Result<SegmentIndex, NoMemory>
     requires { IsRising segment_rank segments.items }
-    ensures rules { Tests result (broken_segments (setup_of settings.now) marks.now nodes.now.nodes customers.now.rows segments.items) }
     ensures rows { IfOk result (λ index. index.rows ≡ segments.items) }
     ensures limits { IfOk result (λ index. index.limits ≡ limits_of settings.now) }
     ensures pending { IfOk result (λ index. index.pending ≡ []) }
     ensures lost { IfOk result (λ index. KnowsLost nodes.now.nodes index) }
 {
-    test_segments(
-        alloc,
-        settings,
-        marks,
-        nodes,
-        customers,
-        segments.as_slice(),
-    )?;
     let gone = lost_nodes(alloc, nodes.nodes())?;
     let limits = limits_of(settings);
-    Ok(SegmentIndex::of(alloc, limits, segments, gone.as_slice())?)
-}
-
-pub(crate) fn settled_of(
-    alloc: Global,
-    settings: &Settings,
-    marks: &Marks,
-    nodes: &NodeTable,
-    rows: Vec<SettledRow>,
-) -> Result<Settled, CoreErr>
-    requires { IsRising key rows.items }
-    ensures rules { Tests result (broken_settled (setup_of settings.now) marks.now nodes.now.nodes rows.items) }
-    ensures rows { IfOk result (λ table. table.rows ≡ rows.items) }
-    ensures cap { IfOk result (λ table. table.cap ≡ settings.now.caps.settled) }
-{
-    test_settled(alloc, settings, marks, nodes, rows.as_slice())?;
-    Ok(settled_table(alloc, settings.caps.settled, rows)?)
+    let index = SegmentIndex::of(alloc, limits, segments, gone.as_slice())?;
+    Ok(index)
 }
 
 pub(crate) fn kept_of(

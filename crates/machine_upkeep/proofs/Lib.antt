@@ -7,3 +7,4 @@ pub mod FreshLemmas
 pub mod BesideLemmas
 pub mod PutLemmas
 pub mod CountedLemmas
+pub mod HourLemmas

@@ -16,6 +16,7 @@ mod plan_audit;
 mod plan_exit;
 mod plan_recheck;
 mod plan_repair;
+mod tally_hour;
 mod upkeep;
 
 pub use upkeep::upkeep_case;

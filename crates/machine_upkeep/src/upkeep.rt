@@ -14,6 +14,7 @@ use crate::plan_audit::plan_audit;
 use crate::plan_exit::plan_exit;
 use crate::plan_recheck::plan_recheck;
 use crate::plan_repair::plan_repair;
+use crate::tally_hour::tally_hour;
 use machine_calls::Call;
 use machine_store::{Prepared, Store, risen};
 use sat_base::NoMemory;
@@ -48,6 +49,7 @@ pub fn upkeep_case(alloc: Global, store: &Store, call: &Call) -> Result<Prepared
         Call::EndRepair { now, outcome } => {
             end_repair(alloc, store, risen(store, *now), outcome)
         }
+        Call::TallyHour { now } => tally_hour(alloc, store, risen(store, *now)),
         Call::EndExit { now, outcome } => end_exit(alloc, store, risen(store, *now), outcome),
         _ => unreachable!(),
     }

@@ -23,3 +23,7 @@ is_serving Active = true
 is_serving Disqualified = false
 is_serving Exiting = true
 is_serving Exited = false
+
+abbrev pub is_disqualified : Status → Bool
+is_disqualified Disqualified = true
+is_disqualified _ = false

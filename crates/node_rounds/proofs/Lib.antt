@@ -9,5 +9,6 @@ pub mod Counting
 pub mod Holding
 pub mod Rounding
 pub mod KitLemmas
+pub mod Tallying
 pub mod Rechecked
 pub mod Keeping

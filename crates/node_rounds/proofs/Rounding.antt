@@ -20,7 +20,7 @@ use Rattle.node_rounds.proofs.Holding.{hold_open}
 use Rattle.node_rounds.proofs.Making.{makes_more, makes_none}
 use Rattle.node_rounds.proofs.Taken.{draw_works, ticks_works}
 
-full_end : {K : Type 0} (k k' : V K) (went : Option RoundEnd) → IfFull k went k' → IfFull k (Some (end_of went)) k'
+pub full_end : {K : Type 0} (k k' : V K) (went : Option RoundEnd) → IfFull k went k' → IfFull k (Some (end_of went)) k'
 full_end k k' None full = tt
 full_end k k' (Some why) full = full
 

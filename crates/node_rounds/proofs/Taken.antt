@@ -8,7 +8,7 @@ use Rattle.machine_calls.specs.declared.call.Call.{Call}
 use Rattle.machine_calls.specs.declared.reply.Reply.{Reply}
 use Rattle.sat_book.specs.Legal.{E}
 use Rattle.sat_rounds.specs.Draws.{Draws, Gives, IsAmong, as_moment, moments_in, words_in}
-use Rattle.sat_rounds.specs.Rounds.{told_of_kit}
+use Rattle.sat_rounds.specs.Rounds.{KitView, told_of_kit}
 use Rattle.sat_rounds.specs.declared.rounds.RoundEnd.{RoundEnd}
 use Rattle.sat_rounds.specs.declared.rounds.RoundEnd.TheVariants as ends
 use Rattle.sat_rounds.proofs.Among.{draws_nothing, draws_then}
@@ -20,14 +20,14 @@ use Rattle.node_rounds.specs.declared.upkeep.Found.TheVariants as founds
 use Rattle.node_rounds.specs.declared.upkeep.Upkeep.{Upkeep}
 use Rattle.node_rounds.specs.declared.upkeep.Upkeep.TheVariants as kinds
 
-abbrev pub Draw : S → List E → S → Type 0
+abbrev pub Draw : {N : Type 0} → KitView N → List E → KitView N → Type 0
 Draw s new s' = Draws (told_of_kit s s') new
 
 pub then_draw : (s m s' : S) (xs ys : List E) → Draw s xs m → Draw m ys s' → Draw s (xs ++ ys) s'
 then_draw s m s' xs ys a b = draws_then s.coming m.coming s'.coming s.words m.words s'.words s.words_faults m.words_faults s'.words_faults xs ys a b
 
-draw_same : (s s' : S) → s' ≡ s → Draw s [] s'
-draw_same s s' same = draws_nothing (told_of_kit s s') (ap (λ (z : S). z.coming) same) (ap (λ (z : S). z.words) same)
+pub draw_same : {N : Type 0} (s s' : KitView N) → s' ≡ s → Draw s [] s'
+draw_same {N} s s' same = draws_nothing (told_of_kit s s') (ap (λ (z : KitView N). z.coming) same) (ap (λ (z : KitView N). z.words) same)
 
 -- only the nodes were asked
 draw_nodes : (s s' : S) → s' ≡ record s { nodes = s'.nodes } → Draw s [] s'
@@ -37,18 +37,30 @@ among_same : (xs : List ℕ) → IsAmong xs xs
 among_same [] = tt
 among_same (x ∷ xs) = inl (refl, among_same xs)
 
-gives_one : (s : S) (moment : ℕ) (m s' : S) → m.coming ≡ s.coming → Timed m moment s' → Gives s.coming (moment ∷ []) s'.coming
+gives_one : {N : Type 0} (s : KitView N) (moment : ℕ) (m s' : KitView N) → m.coming ≡ s.coming → Timed m moment s' → Gives s.coming (moment ∷ []) s'.coming
 gives_one s moment m s' same timed = (s'.coming, ap or_zero (sym same) ∙ timed.timed, refl)
 
 -- a moment was taken, and no call was entered
-draw_timed : (s : S) (moment : ℕ) (s' : S) → Timed s moment s' → Draw s [] s'
-draw_timed s moment s' timed = record {
+pub draw_timed : {N : Type 0} (s : KitView N) (moment : ℕ) (s' : KitView N) → Timed s moment s' → Draw s [] s'
+draw_timed {N} s moment s' timed = record {
   gave = moment ∷ [];
   gives = gives_one s moment s s' refl timed;
   moments = tt;
   drew = [];
-  draws = sym (ap (λ (z : S). z.words) timed.rest) ∙ sym (with_front-none s'.words);
+  draws = sym (ap (λ (z : KitView N). z.words) timed.rest) ∙ sym (with_front-none s'.words);
   words = tt;
+}
+
+-- it was taken, and a call without words was entered at it
+pub draw_at : {N : Type 0} (s : KitView N) (moment : ℕ) (s' : KitView N) (call : Call) (e : E) → Timed s moment s' → e.call ≡ call → IsAmong (moments_in call ++ []) (as_moment moment ∷ [])
+    → IsAmong (words_in call ++ []) [] → Draw s (e ∷ []) s'
+draw_at {N} s moment s' call e timed is moments words = record {
+  gave = moment ∷ [];
+  gives = gives_one s moment s s' refl timed;
+  moments = subst (λ (c : Call). IsAmong (moments_in c ++ []) (as_moment moment ∷ [])) (sym is) moments;
+  drew = [];
+  draws = sym (ap (λ (z : KitView N). z.words) timed.rest) ∙ sym (with_front-none s'.words);
+  words = subst (λ (c : Call). IsAmong (words_in c ++ []) []) (sym is) words;
 }
 
 moments_at_end : (found : Found) (m : ℕ) → IsAmong (moments_in (end_call found m) ++ []) (m ∷ [])
@@ -64,14 +76,8 @@ words_at_end (founds.Repair outcome) m = tt
 words_at_end (founds.Exit outcome) m = tt
 
 draw_end : (s : S) (moment : ℕ) (s' : S) (found : Found) (e : E) → Timed s moment s' → e.call ≡ end_call found (as_moment moment) → Draw s (e ∷ []) s'
-draw_end s moment s' found e timed call = record {
-  gave = moment ∷ [];
-  gives = gives_one s moment s s' refl timed;
-  moments = subst (λ (c : Call). IsAmong (moments_in c ++ []) (as_moment moment ∷ [])) (sym call) (moments_at_end found (as_moment moment));
-  drew = [];
-  draws = sym (ap (λ (z : S). z.words) timed.rest) ∙ sym (with_front-none s'.words);
-  words = subst (λ (c : Call). IsAmong (words_in c ++ []) []) (sym call) (words_at_end found (as_moment moment));
-}
+draw_end s moment s' found e timed call =
+    draw_at s moment s' (end_call found (as_moment moment)) e timed call (moments_at_end found (as_moment moment)) (words_at_end found (as_moment moment))
 
 moments_at_plan : (kind : Upkeep) (m : ℕ) (words : List ℕ) → IsAmong (moments_in (plan_call kind m words) ++ []) (m ∷ [])
 moments_at_plan kinds.Recheck m words = inl (refl, tt)

@@ -10,3 +10,4 @@ pub mod Works
 pub mod Entering
 pub mod Kits
 pub mod Keeps
+pub mod Tally

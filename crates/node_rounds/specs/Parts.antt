@@ -41,8 +41,8 @@ pub record Lacked (number : ℕ) (s s' : S) : Type 0 where
   pub faults : CountsExactly true s.words_faults s'.words_faults
   pub rest : s' ≡ record s { words = s'.words; words_faults = s'.words_faults }
 
--- the clock's next moment was taken
-pub record Timed (s : S) (moment : ℕ) (s' : S) : Type 0 where
+-- the clock's next moment was taken, whatever is told of nodes
+pub record Timed {N : Type 0} (s : KitView N) (moment : ℕ) (s' : KitView N) : Type 0 where
   pub timed : or_zero s.coming ≡ with_front (moment ∷ []) s'.coming
   pub rest : s' ≡ record s { coming = s'.coming }
 

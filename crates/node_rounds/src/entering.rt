@@ -19,7 +19,7 @@ use std::sync::Wait;
 use turnstile::{Desk, Turned};
 
 // Enters a call and names its place. The error is the ticket, where it is at or above the term.
-fn enter<K: Keeper, R: Wait>(
+pub(crate) fn enter<K: Keeper, R: Wait>(
     rt: &R,
     desk: &Desk<Book<K>>,
     pass: BookPass<K>,

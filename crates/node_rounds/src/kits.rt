@@ -20,7 +20,7 @@ use std::sync::Wait;
 use turnstile::Desk;
 
 // Whether no round comes behind one that ended so.
-fn ends_rounds(end: RoundEnd) -> bool
+pub(crate) fn ends_rounds(end: RoundEnd) -> bool
     ensures { result ≡ Rounds.ends_rounds end }
 {
     matches!(

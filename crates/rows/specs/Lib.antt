@@ -3,3 +3,4 @@ pub mod Place
 pub mod Slots
 pub mod Entries
 pub mod Blocks
+pub mod Least

@@ -1,6 +1,11 @@
 -- Rows in the order of their ranks.
 use Rattle.std.specs.Prelude.{ℕ, ◌<◌, not, List, [], ◌∷◌, Option, find, filter, map, ◌==◌, nat_lt, if◌then◌else◌}
 
+-- each row of a list
+abbrev pub Each : {R : Type 0} → (R → Type 0) → List R → Type 0
+Each P [] = Unit {0}
+Each P (row ∷ rest) = P row × Each P rest
+
 -- what contracts see: the rows, and for how many more there is room
 pub record RowList (R : Type 0) : Type 0 where
   pub rows : List R

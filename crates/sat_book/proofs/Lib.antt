@@ -12,3 +12,4 @@ pub mod OldLemmas
 pub mod FineParts
 pub mod PartLemmas
 pub mod OpeningLemmas
+pub mod PaidLemmas

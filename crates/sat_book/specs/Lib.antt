@@ -2,6 +2,7 @@ pub mod TableRows
 pub mod Changes
 pub mod Ids
 pub mod Legal
+pub mod Paid
 pub mod Crash
 pub mod Book
 pub mod Kept

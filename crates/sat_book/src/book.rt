@@ -7,6 +7,7 @@ ghost use Rattle.sat_book.specs.Book.{Keeps, Spell, start_of};
 ghost use Rattle.sat_book.specs.Kept.{Answers};
 ghost use Rattle.sat_book.specs.Openings.{Opens, Refuses};
 ghost use Rattle.sat_book.specs.Legal.{IsHistory, last_shown, replayed, said_of};
+ghost use Rattle.sat_book.specs.Paid.{ClosedMonthsStay, PaysByTariff};
 
 use crate::answering::{Answer, take_step};
 use crate::entry::Entry;
@@ -175,6 +176,8 @@ impl<K: Keeper> Book<K> {
         ensures spell { Spell self.opening }
         ensures lawful { IsHistory (start_of self.opening) self.opening.faults self.history }
         ensures once { SettleOnce (start_of self.opening) (map said_of self.history) }
+        ensures pays { PaysByTariff (replayed (start_of self.opening) self.history) }
+        ensures closed { ClosedMonthsStay (start_of self.opening) self.history }
         ensures shown { last_shown self.opening.faults self.history ≤ K.faults result.0 }
         ensures keeps { Keeps K.is_clean K.is_open K.tells K.rows K.leaves
             self.first self.opened result.0 (start_of self.opening) self.history }

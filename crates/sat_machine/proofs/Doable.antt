@@ -37,6 +37,8 @@ is_tame (changes.SettledRow row) = false
 is_tame (changes.Segment segment) = false
 is_tame (changes.Remove (keys.Segment id)) = false
 is_tame (changes.Remove (keys.Containment node)) = false
+is_tame (changes.Tally tally) = false
+is_tame (changes.Statement statement) = false
 is_tame _ = true
 
 spares-tame : (c d : RecChange) → is_tame c ≡ true → spares c d ≡ true
@@ -44,9 +46,11 @@ spares-tame (changes.SettledRow row) d h = cc
 spares-tame (changes.Segment segment) d h = cc
 spares-tame (changes.Remove (keys.Segment id)) d h = cc
 spares-tame (changes.Remove (keys.Containment node)) d h = cc
+spares-tame (changes.Tally tally) d h = cc
+spares-tame (changes.Statement statement) d h = cc
 spares-tame c d h = refl
 
-tame-all : (c : RecChange) (cs : List RecChange) → is_tame c ≡ true → list_all (spares c) cs ≡ true
+pub tame-all : (c : RecChange) (cs : List RecChange) → is_tame c ≡ true → list_all (spares c) cs ≡ true
 tame-all c [] h = refl
 tame-all c (d ∷ cs) h = and_of _ _ (spares-tame c d h) (tame-all c cs h)
 
@@ -77,6 +81,18 @@ ids_within : (t : Tables) (rows : List Node) (i k : ℕ) (found : Node) → firs
 ids_within t [] i k found h at = cc
 ids_within t (first ∷ rows) i k found h at = grind (arith, nat_tests, h, at, ids_within t rows (suc i) k found)
 
+-- nor above the cap
+ids_capped : (t : Tables) (rows : List Node) (i k : ℕ) (found : Node) → first_bad (breaks_node t.setup t.marks) i rows ≡ None → row_at node_rank rows k ≡ Some found → k ≤ t.setup.caps.nodes
+ids_capped t [] i k found h at = cc
+ids_capped t (first ∷ rows) i k found h at = grind (arith, nat_tests, h, at, ids_capped t rows (suc i) k found)
+
+-- a node that is found has an id from 1 to 65536
+pub found-within : (t : Tables) (v : IsValid t) (id : ℕ) (found : Node) → row_at node_rank t.nodes id ≡ Some found → (1 ≤ id) × (id ≤ 65536)
+found-within t v id found at =
+    let low = ids_above t.setup t.marks t.nodes 0 id found v.rules.nodes at in
+    let high = ids_capped t t.nodes 0 id found v.rules.nodes at in
+    (omega (arith, low), omega (arith, high, v.bounds.setup.caps.nodes.1))
+
 pub node-placeable : (t : Tables) (v : IsValid t) (node found : Node) → node_at t.nodes node.id ≡ Some found → Stays t.nodes node → IsNodePlaceable t.nodes node
 node-placeable t v node found at stays =
     let low = ids_above t.setup t.marks t.nodes 0 node.id.0 found v.rules.nodes at in
@@ -102,6 +118,8 @@ spares-release (changes.SettledRow settled) row = refl
 spares-release (changes.Segment segment) row = refl
 spares-release (changes.Remove (keys.Segment id)) row = refl
 spares-release (changes.Remove (keys.Containment node)) row = refl
+spares-release (changes.Tally tally) row = refl
+spares-release (changes.Statement statement) row = refl
 spares-release c row = refl
 
 spares-releases : (c : RecChange) (rows : List Containment) → list_all (spares c) (map release rows) ≡ true

@@ -1,6 +1,8 @@
 pub mod StayLemmas
 pub mod Doable
 pub mod PlanDoables
+pub mod MonthDoables
 pub mod StepLemmas
 pub mod SweepLemmas
 pub mod FootingLemmas
+pub mod SheetLemmas

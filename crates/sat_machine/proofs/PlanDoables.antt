@@ -1,7 +1,7 @@
 -- What the ends and beginnings of plans change can be placed, and no change takes another's room.
 use Rattle.std.proofs.Common.{◌≡◌, ℕ, Bool, true, false, List, [], ◌∷◌, length, drop, find, min, append-nil, Option, Some, None, refl, subst, ap, sym, ◌∙◌}
 use Rattle.std.specs.List.{list_all}
-use Rattle.std.specs.Prelude.{◌==◌, ◌+◌, ◌-◌, ◌/◌, ◌%◌, not, map, filter, if◌then◌else◌, option_to_list, slice_index}
+use Rattle.std.specs.Prelude.{◌==◌, ◌^◌, ◌<◌, ◌+◌, ◌-◌, ◌/◌, ◌%◌, not, map, filter, if◌then◌else◌, option_to_list, slice_index}
 use Rattle.sat_base.specs.declared.ids.NodeId.{NodeId}
 use Rattle.sat_base.specs.declared.records.At.{At}
 use Rattle.sat_base.specs.declared.records.Containment.{Containment}
@@ -55,6 +55,7 @@ use Rattle.machine_step.proofs.Batches.{each-mapped}
 use Rattle.machine_step.proofs.GrowthLemmas.{found-got}
 use Rattle.machine_step.proofs.Outcomes.{unless-P, with_record-P, if_found-P, if-P}
 use Rattle.machine_step.proofs.RowLemmas.{found_rank}
+use Rattle.machine_step.proofs.SegmentSizes.{found-short}
 use Rattle.machine_store.specs.Store.{ArePlaceable, spares, are_orderly}
 use Rattle.sat_machine.proofs.StayLemmas.{CanTake, can-take, stays-counted}
 use Rattle.sat_machine.proofs.Doable.{IsDoable, IsEasy, still, easy-placeable, easy-orderly, easy-containments, easy-nodes, node-placeable}
@@ -158,29 +159,29 @@ module _ (t : Tables) (v : IsValid t) (time : ℕ) where
   spares_nodes segment (n ∷ ns) = spares_nodes segment ns
 
   -- a segment is put, and nodes
-  doable_segment : (marks : Marks) (kind : ℕ) (segment : SegmentRecord) (ns : List Node) (answer : Reply) → Each (CanTake t.nodes) ns
+  doable_segment : (marks : Marks) (kind : ℕ) (segment : SegmentRecord) (ns : List Node) (answer : Reply) → segment.len < 2 ^ 40 → Each (CanTake t.nodes) ns
       → IsDoable t (record { reply = answer; changes = changes.Marks marks ∷ changes.Remove (keys.Plan kind) ∷ changes.Segment segment ∷ map changes.Node ns })
-  doable_segment marks kind segment ns answer can =
+  doable_segment marks kind segment ns answer short can =
       let nodes = map changes.Node ns in
       let easy = easy-nodes t v ns can in
       let placeable = subst (ArePlaceable t) (append-nil nodes) (easy-placeable t nodes [] easy tt) in
       let orderly = ap are_orderly (sym (append-nil nodes)) ∙ easy-orderly t nodes [] easy refl in
       record {
-        placeable = (tt, (tt, (tt, placeable)));
+        placeable = (tt, (tt, (short, placeable)));
         orderly = easy-orderly t (changes.Marks marks ∷ changes.Remove (keys.Plan kind) ∷ []) (changes.Segment segment ∷ nodes) ((tt, refl), ((tt, refl), tt)) (and_of _ _ (spares_nodes segment ns) orderly);
       }
 
-  doable_mending : (kind : ℕ) (outcome : RepairOutcome) (found : SegmentRecord) → IsDoable t (mending_of t time kind outcome found)
-  doable_mending kind (repairs.Mended mended) found =
-      doable_segment _ kind _ _ _ (failed_can _ mended.plan.sources)
-  doable_mending kind (repairs.Unmended unmended) found =
+  doable_mending : (kind : ℕ) (outcome : RepairOutcome) (found : SegmentRecord) → found.len < 2 ^ 40 → IsDoable t (mending_of t time kind outcome found)
+  doable_mending kind (repairs.Mended mended) found short =
+      doable_segment _ kind _ _ _ short (failed_can _ mended.plan.sources)
+  doable_mending kind (repairs.Unmended unmended) found short =
       easy_doable (unrepaired t time kind unmended) ((tt, refl), ((tt, refl), easy-nodes t v _ (failed_can _ unmended.plan.sources)))
 
   doable_end_mending : (kind : ℕ) (opened : Option RepairPlan) (outcome : RepairOutcome) → IsDoable t (end_mending t time kind opened outcome)
   doable_end_mending kind opened outcome =
       unless-P (IsDoable t) (still t) (not (is_open same_repair opened (plan_of outcome))) (refusals.NoPlan (open_number (λ plan. plan.plan) opened)) (end_mending_at t time kind outcome (segment_at t.segments (plan_of outcome).segment.0)) (λ held.
       if_found-P (IsDoable t) (still t) (segment_at t.segments (plan_of outcome).segment.0) (superseded t time kind (plan_of outcome).version 0) _ (doable_superseded kind (plan_of outcome).version 0) (λ found is.
-      if-P (IsDoable t) (still t) (found.version == (plan_of outcome).version) (mending_of t time kind outcome found) (superseded t time kind (plan_of outcome).version found.version) (doable_mending kind outcome found) (doable_superseded kind (plan_of outcome).version found.version)))
+      if-P (IsDoable t) (still t) (found.version == (plan_of outcome).version) (mending_of t time kind outcome found) (superseded t time kind (plan_of outcome).version found.version) (doable_mending kind outcome found (found-short t v (plan_of outcome).segment.0 found is)) (doable_superseded kind (plan_of outcome).version found.version)))
 
   pub doable_end_repair : (outcome : RepairOutcome) → IsDoable t (end_repair t time outcome)
   doable_end_repair outcome = doable_end_mending kinds.REPAIR_PLAN t.repair outcome

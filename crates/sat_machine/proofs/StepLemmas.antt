@@ -1,5 +1,5 @@
 -- What each step changes can be placed, and no change takes another's room.
-use Rattle.std.proofs.Common.{◌≡◌, ℕ, ◌<◌, ◌^◌, Bool, true, false, List, length, Option, Some, None, IfSome, IsSomeAnd, Result, Ok, Err, refl, sym, ap, subst, ◌∙◌, arith}
+use Rattle.std.proofs.Common.{◌≡◌, ℕ, ◌<◌, ◌≤◌, ◌^◌, Bool, true, false, List, length, Option, Some, None, IfSome, IsSomeAnd, Result, Ok, Err, refl, sym, ap, subst, ◌∙◌, arith}
 use Rattle.std.specs.Prelude.{if◌then◌else◌, nat_le, nat_lt, not, ◌==◌}
 use Rattle.std.proofs.lemmas.Bool.Decides.{nat_tests}
 use Rattle.sat_base.specs.declared.ids.NodeId.{NodeId}
@@ -42,6 +42,13 @@ use Rattle.machine_step.proofs.RowLemmas.{found_rank, capped-length}
 use Rattle.machine_step.proofs.SettleLemmas.{settles-new}
 use Rattle.machine_step.proofs.StepLemmas.{valid_step}
 use Rattle.sat_machine.proofs.Doable.{IsDoable, still, node-placeable, none-next, doable-swept}
+use Rattle.order_limits.proofs.Fields.{IsBytes}
+use Rattle.machine_step.proofs.Fits.{owned_found}
+use Rattle.machine_step.proofs.GrowthLemmas.{ids_above}
+use Rattle.machine_step.proofs.MarkLemmas.{month-open}
+use Rattle.machine_step.proofs.SegmentSizes.{size-short, found-short}
+use Rattle.month_pay.specs.Months.{month_at}
+use Rattle.sat_machine.proofs.MonthDoables.{open-in, doable_tally_hour, doable_close_month, doable_set_rates, doable_statement}
 use Rattle.sat_machine.proofs.PlanDoables.{doable_plan_audit, doable_end_audit, doable_plan_recheck, doable_end_recheck, doable_plan_repair, doable_end_repair, doable_exit, doable_plan_exit, doable_end_exit}
 use Rattle.machine_store.specs.declared.prepared.Prepared.{Prepared}
 use Rattle.machine_store.specs.declared.store.Store.{Store}
@@ -73,7 +80,7 @@ module _ (t : Tables) (v : IsValid t) where
       unless-P (IsDoable t) (still t) (nat_le t.setup.caps.segments (length t.segments)) (refusals.TableFull names.Segments) _ (λ room.
       unless-P (IsDoable t) (still t) (has_no_number t) (refusals.TableFull names.Numbers) _ (λ number.
       unless-P (IsDoable t) (still t) (nat_lt (subnet_count (terms_for t len words)) t.setup.n) (refusals.Few (subnet_count (terms_for t len words))) _ (λ enough.
-      record { placeable = (tt, (tt, (tt, tt))); orderly = refl })))))
+      record { placeable = (tt, (size-short t v len size, (tt, tt))); orderly = refl })))))
 
   doable_commit : (asking : Asking) (segment : SegId) (indexes : List ℕ) → IsDoable t (commit t asking segment indexes)
   doable_commit asking segment indexes =
@@ -81,7 +88,7 @@ module _ (t : Tables) (v : IsValid t) where
       with_record-P (IsDoable t) (still t) (owned_at t.segments asking.caller segment) (refusals.NoSegment segment) _ (λ found at.
       unless-P (IsDoable t) (still t) (not (found.version == 0)) (refusals.AlreadyLive found.version) _ (λ pending.
       unless_caused-P (IsDoable t) (still t) (refusal t.setup.n t.setup.o indexes) _ (λ accepted.
-      record { placeable = (tt, (tt, (tt, tt))); orderly = refl }))))
+      record { placeable = (tt, (found-short t v segment.0 found (owned_found t v asking.caller segment found at), (tt, tt))); orderly = refl }))))
 
   doable_get : (asking : Asking) (segment : SegId) → IsDoable t (get t asking segment)
   doable_get asking segment =
@@ -98,28 +105,32 @@ module _ (t : Tables) (v : IsValid t) where
       with_record-P (IsDoable t) (still t) (owned_at t.segments asking.caller segment) (refusals.NoSegment segment) _ (λ found at.
       record { placeable = (tt, (tt, (tt, tt))); orderly = refl }))
 
-  doable_settle_as : (time : ℕ) (node : NodeId) (bytes : List ℕ) (r : Result Settlable SettleErr) → settlable t.settled t.setup.caps.settled t.setup.secret node time bytes ≡ r → IsDoable t (settle_as t time r)
-  doable_settle_as time node bytes (Ok (may.New row)) is =
-      let new = settles-new t.settled t.setup.caps.settled t.setup.secret node time bytes row is in
+  doable_settle_as : (time : ℕ) (node : NodeId) (bytes : List ℕ) (r : Result Settlable SettleErr) → t.marks.time ≤ time → 1 ≤ node.0 → IsBytes bytes → settlable t.settled t.setup.caps.settled t.setup.secret node time bytes ≡ r → IsDoable t (settle_as t time r)
+  doable_settle_as time node bytes (Ok (may.New row)) le some small is =
+      let new = settles-new t.settled t.setup.caps.settled t.setup.secret node time bytes row small is in
       let few = capped-length t.setup.caps.settled (is_sound_settled t.marks t.nodes) t.settled 0 v.rules.settled (omega arith) in
-      record { placeable = (tt, (record { below = omega (arith, few, new.room); absent = new.absent }, tt)); orderly = refl }
-  doable_settle_as time node bytes (Ok (may.Again amount)) is = still t (replies.Again amount)
-  doable_settle_as time node bytes (Err (no.Length got)) is = still t (replies.Refused (refusals.Length got))
-  doable_settle_as time node bytes (Err (no.Version got)) is = still t (replies.Refused (refusals.Version got))
-  doable_settle_as time node bytes (Err (no.Action got)) is = still t (replies.Refused (refusals.Action got))
-  doable_settle_as time node bytes (Err no.LimitTag) is = still t (replies.Refused refusals.LimitTag)
-  doable_settle_as time node bytes (Err no.OrderTag) is = still t (replies.Refused refusals.OrderTag)
-  doable_settle_as time node bytes (Err (no.OtherNode limit_node)) is = still t (replies.Refused (refusals.OtherNode limit_node))
-  doable_settle_as time node bytes (Err (no.Differs kept)) is = still t (replies.Refused (refusals.Differs kept))
-  doable_settle_as time node bytes (Err (no.Late until)) is = still t (replies.Refused (refusals.Late until))
-  doable_settle_as time node bytes (Err (no.OverLimit limit)) is = still t (replies.Refused (refusals.OverLimit limit))
-  doable_settle_as time node bytes (Err (no.SettledFull cap)) is = still t (replies.Refused (refusals.SettledFull cap))
-  doable_settle_as time node bytes (Err no.NoMemory) is = still t replies.NoMemory
+      let begun = month-open t.setup t.marks time le v.rules.marks in
+      let month : t.marks.month.0 ≤ month_at row.at = rw new.at begun in
+      let known : 1 ≤ row.node.0 = rw new.node some in
+      record { placeable = (tt, (record { row = record { below = omega (arith, few, new.room); absent = new.absent }; unstated = open-in t v (month_at row.at) row.node month known }, tt)); orderly = refl }
+  doable_settle_as time node bytes (Ok (may.Again amount)) le some small is = still t (replies.Again amount)
+  doable_settle_as time node bytes (Err (no.Length got)) le some small is = still t (replies.Refused (refusals.Length got))
+  doable_settle_as time node bytes (Err (no.Version got)) le some small is = still t (replies.Refused (refusals.Version got))
+  doable_settle_as time node bytes (Err (no.Action got)) le some small is = still t (replies.Refused (refusals.Action got))
+  doable_settle_as time node bytes (Err no.LimitTag) le some small is = still t (replies.Refused refusals.LimitTag)
+  doable_settle_as time node bytes (Err no.OrderTag) le some small is = still t (replies.Refused refusals.OrderTag)
+  doable_settle_as time node bytes (Err (no.OtherNode limit_node)) le some small is = still t (replies.Refused (refusals.OtherNode limit_node))
+  doable_settle_as time node bytes (Err (no.Differs kept)) le some small is = still t (replies.Refused (refusals.Differs kept))
+  doable_settle_as time node bytes (Err (no.Late until)) le some small is = still t (replies.Refused (refusals.Late until))
+  doable_settle_as time node bytes (Err (no.OverLimit limit)) le some small is = still t (replies.Refused (refusals.OverLimit limit))
+  doable_settle_as time node bytes (Err (no.SettledFull cap)) le some small is = still t (replies.Refused (refusals.SettledFull cap))
+  doable_settle_as time node bytes (Err no.NoMemory) le some small is = still t replies.NoMemory
 
-  doable_settle : (time : ℕ) (node : NodeId) (bytes : List ℕ) → IsDoable t (settle t time node bytes)
-  doable_settle time node bytes =
+  doable_settle : (time : ℕ) (node : NodeId) (bytes : List ℕ) → t.marks.time ≤ time → IsBytes bytes → IsDoable t (settle t time node bytes)
+  doable_settle time node bytes le small =
       with_record-P (IsDoable t) (still t) (node_at t.nodes node) (refusals.NoNode node) _ (λ found at.
-      doable_settle_as time node bytes (settlable t.settled t.setup.caps.settled t.setup.secret node time bytes) refl)
+      let some = ids_above t.setup t.marks t.nodes 0 node.0 found v.rules.nodes at in
+      doable_settle_as time node bytes (settlable t.settled t.setup.caps.settled t.setup.secret node time bytes) le (omega (arith, some)) small refl)
 
   doable_set_free : (time : ℕ) (node : NodeId) (free : ℕ) → IsDoable t (set_free t time node free)
   doable_set_free time node free =
@@ -129,43 +140,50 @@ module _ (t : Tables) (v : IsValid t) where
       if-P (IsDoable t) (still t) (found.free == free) (unchanged replies.FreeSet) (free_set t time found free) (still t replies.FreeSet)
       (record { placeable = (tt, (node-placeable t v (record found { free = free }) found here (λ lost. same_status found here lost), tt)); orderly = refl }))
 
-doable_case : (t : Tables) (call : Call) → IsValid t → IsDoable t (case_of t call)
-doable_case t (calls.AddNode now request addr port free) v = doable_add_node t v (asking t operator request now) addr port free
-doable_case t (calls.AddCustomer now request) v = doable_add_customer t v (asking t operator request now)
-doable_case t (calls.Begin now customer request len words) v = doable_begin t v (asking t customer request now) len words
-doable_case t (calls.Commit now customer request segment indexes) v = doable_commit t v (asking t customer request now) segment indexes
-doable_case t (calls.Get now customer request segment) v = doable_get t v (asking t customer request now) segment
-doable_case t (calls.Delete now customer request segment) v = doable_delete t v (asking t customer request now) segment
-doable_case t (calls.Settle now node bytes) v = doable_settle t v (risen t now) node bytes
-doable_case t (calls.SetFree now node free) v = doable_set_free t v (risen t now) node free
-doable_case t (calls.PlanAudit now words) v = doable_plan_audit t v (risen t now) words
-doable_case t (calls.EndAudit now judged) v = doable_end_audit t v (risen t now) judged
-doable_case t (calls.PlanRecheck now) v = doable_plan_recheck t v (risen t now)
-doable_case t (calls.EndRecheck now plan checked) v = doable_end_recheck t v (risen t now) plan checked
-doable_case t (calls.PlanRepair now words) v = doable_plan_repair t v (risen t now) words
-doable_case t (calls.EndRepair now outcome) v = doable_end_repair t v (risen t now) outcome
-doable_case t (calls.Exit now node) v = doable_exit t v (risen t now) node
-doable_case t (calls.PlanExit now words) v = doable_plan_exit t v (risen t now) words
-doable_case t (calls.EndExit now outcome) v = doable_end_exit t v (risen t now) outcome
-doable_case t calls.Stop v = record { placeable = tt; orderly = refl }
+risen_within : (t : Tables) (v : IsValid t) (now : ℕ) → now < 2 ^ 36 → risen t now < 2 ^ 36
+risen_within t v now lt = omega (arith, v.bounds.marks.time)
+
+doable_case : (t : Tables) (call : Call) → IsValid t → IsWellFormed t call → IsDoable t (case_of t call)
+doable_case t (calls.AddNode now request addr port free) v w = doable_add_node t v (asking t operator request now) addr port free
+doable_case t (calls.AddCustomer now request) v w = doable_add_customer t v (asking t operator request now)
+doable_case t (calls.Begin now customer request len words) v w = doable_begin t v (asking t customer request now) len words
+doable_case t (calls.Commit now customer request segment indexes) v w = doable_commit t v (asking t customer request now) segment indexes
+doable_case t (calls.Get now customer request segment) v w = doable_get t v (asking t customer request now) segment
+doable_case t (calls.Delete now customer request segment) v w = doable_delete t v (asking t customer request now) segment
+doable_case t (calls.Settle now node bytes) v w = doable_settle t v (risen t now) node bytes (omega arith) w.formed.bytes
+doable_case t (calls.SetFree now node free) v w = doable_set_free t v (risen t now) node free
+doable_case t (calls.PlanAudit now words) v w = doable_plan_audit t v (risen t now) words
+doable_case t (calls.EndAudit now judged) v w = doable_end_audit t v (risen t now) judged
+doable_case t (calls.PlanRecheck now) v w = doable_plan_recheck t v (risen t now)
+doable_case t (calls.EndRecheck now plan checked) v w = doable_end_recheck t v (risen t now) plan checked
+doable_case t (calls.PlanRepair now words) v w = doable_plan_repair t v (risen t now) words
+doable_case t (calls.TallyHour now) v w = doable_tally_hour t v (risen t now) (omega arith) (risen_within t v now w.formed.timely)
+doable_case t (calls.CloseMonth now month) v w = doable_close_month t v (risen t now) (omega arith) (risen_within t v now w.formed.timely) month
+doable_case t (calls.SetRates now month rates) v w = doable_set_rates t v (risen t now) month rates
+doable_case t (calls.Statement node month) v w = doable_statement t v node month
+doable_case t (calls.EndRepair now outcome) v w = doable_end_repair t v (risen t now) outcome
+doable_case t (calls.Exit now node) v w = doable_exit t v (risen t now) node
+doable_case t (calls.PlanExit now words) v w = doable_plan_exit t v (risen t now) words
+doable_case t (calls.EndExit now outcome) v w = doable_end_exit t v (risen t now) outcome
+doable_case t calls.Stop v w = record { placeable = tt; orderly = refl }
 
 -- where the machine isn't stopped, the step is the case of the call, and what it releases
 pub step-running : (t : Tables) (call : Call) → t.stopped ≡ false → step t call ≡ swept t (case_of t call)
 step-running t call running = ap (λ (b : Bool). if b then refused refusals.Stopped else swept t (case_of t call)) running
 
-doable_step : (t : Tables) (call : Call) → IsValid t → IsDoable t (step t call)
-doable_step t call v =
+doable_step : (t : Tables) (call : Call) → IsValid t → IsWellFormed t call → IsDoable t (step t call)
+doable_step t call v w =
     if-P (IsDoable t) (still t) t.stopped (refused refusals.Stopped) (swept t (case_of t call)) (record { placeable = tt; orderly = refl })
-    (doable-swept t (case_of t call) (doable_case t call v))
+    (doable-swept t (case_of t call) (doable_case t call v w))
 
 -- what is prepared can be placed
 pub placeable_held : (t : Tables) (call : Call) (p : Prepared) → IsValid t → IsWellFormed t call → Holds p (step t call) → ArePlaceable t p.changes.items
-placeable_held t call p v w holds = subst (ArePlaceable t) (sym holds.changes) (doable_step t call v).placeable
+placeable_held t call p v w holds = subst (ArePlaceable t) (sym holds.changes) (doable_step t call v w).placeable
 
 -- the pending call, and that it is prepared
 pub orderly_held : (s : Store) (pending : Option Call) (p : Prepared) → IsReady s pending → IsSomeAnd pending (λ call. Holds p (step (tables_of s) call)) → are_orderly p.changes.items ≡ true
 orderly_held s None p ready holds = absurd holds
-orderly_held s (Some call) p ready holds = ap are_orderly holds.changes ∙ (doable_step (tables_of s) call ready.valid).orderly
+orderly_held s (Some call) p ready holds = ap are_orderly holds.changes ∙ (doable_step (tables_of s) call ready.valid ready.prepared.formed).orderly
 
 pub room_held : (s : Store) (pending : Option Call) (p : Prepared) → IsReady s pending → IsSomeAnd pending (λ call. Holds p (step (tables_of s) call)) → HasRoom s p.changes.items
 room_held s None p ready holds = absurd holds

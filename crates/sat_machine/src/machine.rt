@@ -1,5 +1,6 @@
 // The machine: a step is prepared, and then finished or forgotten.
-ghost use Rattle.std.specs.Prelude.{◌≡◌, [], None, Some, IfOk, OnOk, OnErr, IfSome, IsSomeAnd};
+ghost use Rattle.std.specs.Prelude.{◌≡◌, ◌==◌, ◌≤◌, [], All, filter, length, None, Some, IfOk, OnOk, OnErr, IfSome, IsSomeAnd};
+ghost use Rattle.tally_payout.specs.Sheet.{IsPrintable};
 ghost use Rattle.machine_step.specs.Bounds.{IsValid};
 ghost use Rattle.machine_step.specs.Step.{case_of, step, after, IsWellFormed};
 ghost use Rattle.machine_step.specs.Tables.{setup_of};
@@ -15,10 +16,11 @@ use machine_store::{
     take_step,
 };
 use machine_upkeep::upkeep_case;
-use sat_base::{Marks, NoMemory, Settings, kinds};
+use sat_base::{Marks, Month, NoMemory, Settings, kinds};
 use std::alloc::Global;
 use std::marker::Model;
 use std::snapshot::Snapshot;
+use tally_payout::Statement;
 
 /// The machine. Contracts see its tables, and the call whose step is prepared and neither finished nor forgotten, if
 /// there is one. Its tables keep every rule at every moment.
@@ -59,6 +61,9 @@ fn case_of(alloc: Global, store: &Store, call: &Call) -> Result<Prepared, NoMemo
         | Call::Delete { .. }
         | Call::Settle { .. }
         | Call::SetFree { .. }
+        | Call::Statement { .. }
+        | Call::CloseMonth { .. }
+        | Call::SetRates { .. }
         | Call::Exit { .. }
         | Call::Stop => request_case(alloc, store, call),
         _ => upkeep_case(alloc, store, call),
@@ -78,6 +83,14 @@ fn step(alloc: Global, store: &Store, call: &Call) -> Result<Prepared, NoMemory>
     }
     let prepared = case_of(alloc, store, call)?;
     sweep(alloc, store, prepared)
+}
+
+// The statements of a month.
+fn of_month(alloc: Global, rows: &[Statement], month: Month) -> Result<Vec<Statement>, NoMemory>
+    ensures { IfOk result (λ due. due.items ≡ filter (λ s. s.month.0 == month.0) rows.now) }
+{
+    let due = rows.iter().copied().filter(|row| row.month.0 == month.0);
+    Ok(due.collect(alloc)?)
 }
 
 impl Core {
@@ -151,6 +164,17 @@ impl Core {
         ensures { setup_of result.now ≡ self.now.tables.setup }
     {
         &self.store.settings
+    }
+
+    /// The statements of a month, in the order of their nodes: none of a month that isn't closed. They are such that a
+    /// sheet can be made of them. Its error is want of memory.
+    pub fn statements(&self, month: Month) -> Result<Vec<Statement>, NoMemory>
+        ensures rows { IfOk result (λ rows. rows.items ≡ filter (λ s. s.month.0 == month.0) self.now.tables.statements) }
+        ensures few { IfOk result (λ rows. length rows.items ≤ 65536) }
+        ensures small { IfOk result (λ rows. All IsPrintable rows.items) }
+    {
+        let rows = self.store.pay.statements.copied(self.alloc)?;
+        of_month(self.alloc, rows.as_slice(), month)
     }
 
     /// How far the store has come. The tables keep every rule.

@@ -24,6 +24,10 @@ moments_in_wish (wishes.Get customer request segment) m words = inl (refl, tt)
 moments_in_wish (wishes.Delete customer request segment) m words = inl (refl, tt)
 moments_in_wish (wishes.Settle node bytes) m words = inl (refl, tt)
 moments_in_wish (wishes.SetFree node free) m words = inl (refl, tt)
+moments_in_wish (wishes.Exit node) m words = inl (refl, tt)
+moments_in_wish (wishes.Statement node month) m words = tt
+moments_in_wish (wishes.CloseMonth month) m words = inl (refl, tt)
+moments_in_wish (wishes.SetRates month rates) m words = inl (refl, tt)
 moments_in_wish wishes.Stop m words = tt
 
 words_in_wish : (wish : Wish) (m : ℕ) (words : List ℕ) → IsAmong (words_in (call_of wish m words) ++ []) words
@@ -35,6 +39,10 @@ words_in_wish (wishes.Get customer request segment) m words = tt
 words_in_wish (wishes.Delete customer request segment) m words = tt
 words_in_wish (wishes.Settle node bytes) m words = tt
 words_in_wish (wishes.SetFree node free) m words = tt
+words_in_wish (wishes.Exit node) m words = tt
+words_in_wish (wishes.Statement node month) m words = tt
+words_in_wish (wishes.CloseMonth month) m words = tt
+words_in_wish (wishes.SetRates month rates) m words = tt
 words_in_wish wishes.Stop m words = tt
 
 draws_none : (told : Told) → TakesNone told → Draws told []

@@ -25,6 +25,7 @@ as_moment given = min given (2 ^ 36 - 1)
 
 -- the moment of a call, where it has one
 abbrev pub moments_in : Call → List ℕ
+moments_in (calls.Statement node month) = []
 moments_in calls.Stop = []
 moments_in call = moment_of call ∷ []
 

@@ -22,6 +22,10 @@ call_of (wishes.Get customer request segment) now words = calls.Get now customer
 call_of (wishes.Delete customer request segment) now words = calls.Delete now customer request segment
 call_of (wishes.Settle node bytes) now words = calls.Settle now node bytes
 call_of (wishes.SetFree node free) now words = calls.SetFree now node free
+call_of (wishes.Exit node) now words = calls.Exit now node
+call_of (wishes.Statement node month) now words = calls.Statement node month
+call_of (wishes.CloseMonth month) now words = calls.CloseMonth now month
+call_of (wishes.SetRates month rates) now words = calls.SetRates now month rates
 call_of wishes.Stop now words = calls.Stop
 
 -- how many random words a wish takes

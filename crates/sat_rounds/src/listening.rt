@@ -1,6 +1,6 @@
 // A connection is listened to.
-ghost use Rattle.std.specs.Prelude.{◌≡◌, ◌≤◌, ◌<◌, ℕ, List, length, not, IsTrue, false};
-ghost use Rattle.machine_step.specs.Step.{IsAsked};
+ghost use Rattle.std.specs.Prelude.{◌≡◌, ◌≤◌, ◌<◌, ℕ, List, length, not, IsTrue, false, slice_index_or};
+ghost use Rattle.machine_step.specs.Step.{HasBytes, IsAsked};
 ghost use Rattle.sat_base.specs.Outside.{CountsExactly, with_front};
 ghost use Rattle.sat_base.specs.Streams.{Took};
 ghost use Rattle.http_edge.specs.Requests.{MayRead, max_request};
@@ -65,6 +65,7 @@ fn enter<T: Clock, W: Words>(alloc: Global, wish: Wish, clock: &mut T, words: &m
       faults = W.faults words.old;
       faults_after = W.faults words.new;
     }) result }
+    ensures bytes { IfCall result HasBytes }
     ensures read_faults { failed_to_read result ≡ false }
     ensures words_faults { CountsExactly (failed_to_draw result) (W.faults words.old) (W.faults words.new) }
 {
@@ -105,9 +106,17 @@ pub fn draw<W: Words>(words: &mut W, room: &mut [u64]) -> bool
     true
 }
 
+// A slice of bytes is one, which contracts aren't told of a list.
+fn are_bytes(bytes: &[u8])
+    ensures { (i : ℕ) → slice_index_or bytes.now i 0 < 256 }
+{
+    let _ = bytes;
+}
+
 // The call of a wish at a moment, with these words.
 fn call_of(wish: Wish, now: Moment, words: Words64) -> Call
-    ensures { result ≡ call_of wish now words }
+    ensures call { result ≡ call_of wish now words }
+    ensures bytes { HasBytes result }
 {
     match wish {
         Wish::AddNode {
@@ -166,8 +175,15 @@ fn call_of(wish: Wish, now: Moment, words: Words64) -> Call
             request,
             segment,
         },
-        Wish::Settle { node, bytes } => Call::Settle { now, node, bytes },
+        Wish::Settle { node, bytes } => {
+            are_bytes(bytes.as_slice());
+            Call::Settle { now, node, bytes }
+        }
         Wish::SetFree { node, free } => Call::SetFree { now, node, free },
+        Wish::Exit { node } => Call::Exit { now, node },
+        Wish::Statement { node, month } => Call::Statement { node, month },
+        Wish::CloseMonth { month } => Call::CloseMonth { now, month },
+        Wish::SetRates { month, rates } => Call::SetRates { now, month, rates },
         Wish::Stop => Call::Stop,
     }
 }

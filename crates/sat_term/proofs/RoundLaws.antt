@@ -28,9 +28,9 @@ module _ {N : Type 0} (Tells : Telling N) (h : List E) where
   did_draw s [] made s' a = subst (λ (l : List E). Draws (told_of_kit s s') l) (sym a.1) (draws_nothing (told_of_kit s s') (ap (λ (z : KitView N). z.coming) a.0) (ap (λ (z : KitView N). z.words) a.0))
   did_draw s (x ∷ xs) made s' a = subst (λ (l : List E). Draws (told_of_kit s s') l) (sym a.3) (draws_then s.coming a.0.coming s'.coming s.words a.0.words s'.words s.words_faults a.0.words_faults s'.words_faults a.1 a.2 a.5.draws (did_draw a.0 xs a.2 s' a.6))
 
-  did_tell : (s : KitView N) (xs : List Round) (made : List E) (m s' : KitView N) → Did s xs made m → s'.nodes ≡ m.nodes → AreTold Tells h s xs made s'
-  did_tell s [] made m s' a same = (a.1, same ∙ ap (λ (z : KitView N). z.nodes) a.0)
-  did_tell s (x ∷ xs) made m s' a same = (a.0, a.1, a.2, a.3, a.4, a.5.tells, did_tell a.0 xs a.2 m s' a.6 same)
+  did_tell : (s : KitView N) (xs : List Round) (made : List E) (m s' : KitView N) → Did s xs made m → s'.nodes ≡ m.nodes → s'.words_faults ≡ m.words_faults → AreTold Tells h s xs made s'
+  did_tell s [] made m s' a same faults = (a.1, same ∙ ap (λ (z : KitView N). z.nodes) a.0, faults ∙ ap (λ (z : KitView N). z.words_faults) a.0)
+  did_tell s (x ∷ xs) made m s' a same faults = (a.0, a.1, a.2, a.3, a.4, a.5.tells, did_tell a.0 xs a.2 m s' a.6 same faults)
 
   -- what the last wait leaves
   record IsSame (s s' : KitView N) : Type 0 where
@@ -38,6 +38,7 @@ module _ {N : Type 0} (Tells : Telling N) (h : List E) where
     pub nodes : s'.nodes ≡ s.nodes
     pub coming : s'.coming ≡ s.coming
     pub words : s'.words ≡ s.words
+    pub words_faults : s'.words_faults ≡ s.words_faults
 
   same_but : (s s' : KitView N) (ticks : TicksView) → ticks.given ≡ s.ticks.given → s' ≡ record s { ticks = ticks } → IsSame s s'
   same_but s s' ticks given e = record {
@@ -45,6 +46,7 @@ module _ {N : Type 0} (Tells : Telling N) (h : List E) where
     nodes = ap (λ (z : KitView N). z.nodes) e;
     coming = ap (λ (z : KitView N). z.coming) e;
     words = ap (λ (z : KitView N). z.words) e;
+    words_faults = ap (λ (z : KitView N). z.words_faults) e;
   }
 
   closes_same : (end : RoundsEnd) (xs : List Round) (s s' : KitView N) → RoundsClose end xs s s' → IsSame s s' × RoundCause end xs s'
@@ -67,7 +69,7 @@ module _ {N : Type 0} (Tells : Telling N) (h : List E) where
         drew = d.drew;
         draws = d.draws ∙ ap (with_front d.drew) (sym same.words);
         words = d.words;
-        told = subst (λ (l : List E). AreTold Tells h row.before row.rounds l row.after) is (did_tell row.before row.rounds made m row.after a same.nodes);
+        told = subst (λ (l : List E). AreTold Tells h row.before row.rounds l row.after) is (did_tell row.before row.rounds made m row.after a same.nodes same.words_faults);
       }
 
 pub round_clauses : {K : Type 0} {N : Type 0} (Tells : Telling N) (history : List E) (u : V K) (row : KitRow N) → RoundHolds Tells u row → u.seen ≡ history → RoundClauses Tells history row

@@ -97,7 +97,7 @@ RoundCause round_causes.NoMemory xs after = Unit {0}
 
 -- the entries of the rounds, in order: each round's are those at its places, and it tells of them over the whole history
 abbrev pub AreTold : {N : Type 0} → Telling N → List E → KitView N → List Round → List E → KitView N → Type 0
-AreTold Tells history s [] made s' = (made ≡ []) × (s'.nodes ≡ s.nodes)
+AreTold Tells history s [] made s' = (made ≡ []) × (s'.nodes ≡ s.nodes) × (s'.words_faults ≡ s.words_faults)
 AreTold {N} Tells history s (x ∷ xs) made s' = (m : KitView N) × (new rest : List E) × (made ≡ new ++ rest) × (map place_of new ≡ round_places x) × Tells s x new history m × AreTold Tells history m xs rest s'
 
 -- what a worker of rounds did

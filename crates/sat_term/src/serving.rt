@@ -2,7 +2,8 @@
 ghost use Rattle.std.specs.Prelude.{◌≡◌, ◌+◌, ◌≤◌, [], length, map, IfOk, IfErr, Some, vec_capacity};
 ghost use Rattle.machine_history.specs.Orders.{SettleOnce};
 ghost use Rattle.sat_book.specs.Book.{Keeps, Spell, start_of};
-ghost use Rattle.sat_book.specs.Legal.{last_shown, said_of};
+ghost use Rattle.sat_book.specs.Legal.{last_shown, replayed, said_of};
+ghost use Rattle.sat_book.specs.Paid.{ClosedMonthsStay, PaysByTariff};
 ghost use Rattle.sat_rounds.specs.Lanes.{post_view};
 ghost use Rattle.sat_term.specs.Crew.{IsBlank, kits_view};
 ghost use Rattle.sat_term.specs.Term.{TermClauses};
@@ -40,9 +41,10 @@ pub struct NotServed<K: Keeper, L, T, W, A, B, C> {
 ///
 /// Whatever the threads' order, the term is one history of the book (`clauses`): its entries are just those that the
 /// workers' sessions and rounds name, each worker's in the order in which it made them. A worker ends only for a cause
-/// that its end names, and all connections are given back. No order settles twice (`once`), the keeper has the rows of the
-/// history's replay, and a crash leaves these, or those of one step more that was answered as lost (`keeps`). Where there
-/// is no memory for the desk, all comes back, and the book as it was.
+/// that its end names, and all connections are given back. No order settles twice (`once`), operators are paid by the tariff
+/// (`pays`), closed months stay (`closed`), the keeper has the rows of the history's replay, and a crash leaves these, or
+/// those of one step more that was answered as lost (`keeps`). Where there is no memory for the desk, all comes back, and
+/// the book as it was.
 pub fn serve_term<
     K: Keeper + Send,
     L: Lane,
@@ -78,6 +80,8 @@ pub fn serve_term<
     ensures faults { IfOk result (λ r. last_shown book.opening.faults r.term.history.items ≤ K.faults r.keeper) }
     ensures spell { IfOk result (λ _. Spell book.opening) }
     ensures once { IfOk result (λ r. SettleOnce (start_of book.opening) (map said_of r.term.history.items)) }
+    ensures pays { IfOk result (λ r. PaysByTariff (replayed (start_of book.opening) r.term.history.items)) }
+    ensures closed { IfOk result (λ r. ClosedMonthsStay (start_of book.opening) r.term.history.items) }
     ensures keeps { IfOk result (λ r. Keeps K.is_clean K.is_open K.tells K.rows K.leaves
         book.first book.opened r.keeper (start_of book.opening) r.term.history.items) }
     ensures err { IfErr result (λ r. (r.book ≡ book) × (r.crew ≡ crew) × (r.sheet ≡ sheet)) }

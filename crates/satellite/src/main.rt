@@ -71,7 +71,7 @@ fn run<R: Threads + Wait + Sync>(
         Err(NoMemory) => return Err(StartErr::NoMemory),
     };
     match read_line(alloc, &line) {
-        Ok(Command::Init { store, .. }) => {
+        Ok(Command::Init { store, .. } | Command::Sheet { store, .. }) => {
             let open = OpenStore {
                 name: store.as_slice(),
                 posts: Vec::new(alloc),

@@ -1,10 +1,10 @@
--- What the words of `init` ask for is what the store is made with.
+-- What the words ask for is what is done.
 use Rattle.std.proofs.Common.{◌≡◌, ℕ, List, Option, Some, sym, ◌∙◌}
 use Rattle.sat_base.specs.declared.rates.Rates.{Rates}
 use Rattle.sat_base.specs.declared.scheme.Scheme.{Scheme}
 use Rattle.sat_base.specs.declared.settings.Caps.{Caps}
-use Rattle.command_line.specs.Command.{NewStore, Server, command_of, numbers_of}
-use Rattle.command_line.specs.Command.Asked.{init, serve}
+use Rattle.command_line.specs.Command.{MonthSheet, NewStore, Server, command_of, numbers_of}
+use Rattle.command_line.specs.Command.Asked.{init, serve, sheet}
 use Rattle.satellite_cli.specs.Making.{IsAsked}
 
 same_store : (a b : NewStore) → Some (init a) ≡ Some (init b) → a ≡ b
@@ -31,3 +31,10 @@ same_server a b e = cc
 -- the term that the words of `serve` ask for is the one that is served
 pub same_term : (said asked : Server) (line : List (List ℕ)) → command_of line ≡ Some (serve said) → command_of line ≡ Some (serve asked) → asked.term ≡ said.term
 same_term said asked line is same = let e = same_server said asked (sym is ∙ same) in λ i. (sym e i).term
+
+one_sheet : (a b : MonthSheet) → Some (sheet a) ≡ Some (sheet b) → a ≡ b
+one_sheet a b e = cc
+
+-- the month that the words of `sheet` ask for is the one that is printed
+pub same_month : (said asked : MonthSheet) (line : List (List ℕ)) → command_of line ≡ Some (sheet said) → command_of line ≡ Some (sheet asked) → asked.month ≡ said.month
+same_month said asked line is same = let e = one_sheet said asked (sym is ∙ same) in λ i. (sym e i).month

@@ -23,6 +23,15 @@ use Rattle.satellite_cli.specs.Serving.{AreSound, Causes, IsIdle, IsTerm, NoneRo
 use Rattle.satellite_cli.specs.declared.ending.LastLine.{LastLine}
 use Rattle.satellite_cli.specs.declared.ending.LastLine.TheVariants as last
 
+-- a run over the console's input never ends as words outside the grammar do
+pub not_usage : (code ended : ℕ) → ended ≡ code → (code ≡ 0) ⊎ ((code ≡ 5) ⊎ ((code ≡ 8) ⊎ ((code ≡ 9) ⊎ ((code ≡ 11) ⊎ (code ≡ 12))))) → ended ≡ 2 → ⊥
+not_usage code ended is (inl e) two = omega arith
+not_usage code ended is (inr (inl e)) two = omega arith
+not_usage code ended is (inr (inr (inl e))) two = omega arith
+not_usage code ended is (inr (inr (inr (inl e)))) two = omega arith
+not_usage code ended is (inr (inr (inr (inr (inl e))))) two = omega arith
+not_usage code ended is (inr (inr (inr (inr (inr e))))) two = omega arith
+
 -- no round was made
 no_rounds : (h : List E) (s : KitView (Unit {0})) (xs : List Round) (made : List E) (s' : KitView (Unit {0})) → AreTold NoRound h s xs made s' → some_is round_full xs ≡ false
 no_rounds h s [] made s' a = refl

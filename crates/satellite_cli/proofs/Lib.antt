@@ -1,4 +1,5 @@
 pub mod Asking
 pub mod Ends
 pub mod Inits
+pub mod Prints
 pub mod Terms

@@ -1,5 +1,7 @@
 -- How `serve` ends: the line of a store that isn't opened, and the status and the lines of a term.
-use Rattle.std.specs.Prelude.{◌≡◌, ◌⊎◌, ℕ, List, [], length, Bool, true, false, codes, ◌==◌, if◌then◌else◌}
+use Rattle.std.specs.Prelude.{◌≡◌, ◌⊎◌, ℕ, List, [], length, Option, Some, None, Bool, true, false, codes, ◌==◌, if◌then◌else◌}
+use Rattle.command_line.specs.Command.{Asked}
+use Rattle.command_line.specs.Command.Asked.{drill}
 use Rattle.sat_base.specs.Outside.{About, Rose, with_end}
 use Rattle.sat_book.specs.declared.opening.OpenErr.{OpenErr}
 use Rattle.sat_book.specs.declared.opening.OpenErr.TheVariants as errs
@@ -10,6 +12,14 @@ use Rattle.sat_rounds.specs.declared.lanes.LaneEnd.TheVariants as lanes
 use Rattle.sat_rounds.specs.declared.told.Session.{Session}
 use Rattle.satellite_cli.specs.declared.ending.LastLine.{LastLine}
 use Rattle.satellite_cli.specs.declared.ending.LastLine.TheVariants as last
+
+-- ---- what is served
+
+-- the words ask for what the satellite does so far
+abbrev pub is_served : Option Asked → Bool
+is_served None = false
+is_served (Some (drill start calls)) = false
+is_served (Some _) = true
 
 -- ---- no book
 

@@ -1,3 +1,4 @@
 pub mod Making
 pub mod Ending
 pub mod Serving
+pub mod Printing

@@ -6,7 +6,8 @@ use Rattle.sat_base.specs.Rows.{Rows, AreThe}
 use Rattle.sat_base.specs.declared.rows.Row.{Row}
 use Rattle.machine_history.specs.Orders.{SettleOnce}
 use Rattle.sat_book.specs.Book.{BookView, Keeps, Spell, start_of}
-use Rattle.sat_book.specs.Legal.{E, last_shown, said_of}
+use Rattle.sat_book.specs.Legal.{E, last_shown, replayed, said_of}
+use Rattle.sat_book.specs.Paid.{ClosedMonthsStay, PaysByTariff}
 use Rattle.sat_book.specs.Opened.{IsFirstBad}
 use Rattle.sat_book.specs.Openings.{BreaksRule, Refuses}
 use Rattle.sat_book.specs.declared.opening.OpenErr.{OpenErr}
@@ -72,10 +73,13 @@ module _ {K : Type 0} (faults : K → ℕ) (is_clean is_open tells : K → Type 
       ((why : OpenErr) × Refuses faults is_clean is_open tells rows_at leaves old new why × SaysWhy why status said said_after)
       ⊎ ((new ≡ old) × (status ≡ 9) × Says (fault_line 9) said said_after)
 
-  -- what a book's history is to its opening and its keeper: each order settles once, and the keeper has the rows of its replay
+  -- what a book's history is to its opening and its keeper: each order settles once, operators are paid by the tariff, closed
+  -- months stay, and the keeper has the rows of its replay
   pub record Stands (b : BookView K) (keeper : K) (history : List E) : Type 0 where
     pub spelled : Spell b.opening
     pub once : SettleOnce (start_of b.opening) (map said_of history)
+    pub pays : PaysByTariff (replayed (start_of b.opening) history)
+    pub closed : ClosedMonthsStay (start_of b.opening) history
     pub keeps : Keeps is_clean is_open tells rows_at leaves b.first b.opened keeper (start_of b.opening) history
     pub shown : last_shown b.opening.faults history ≤ faults keeper
 

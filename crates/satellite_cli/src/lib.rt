@@ -6,7 +6,8 @@
 //! - `settle` and `judge` answer the console's input (`sat_console`);
 //! - `init` makes a store in the keeper (`sat_init`) and writes the operator's key;
 //! - `serve` opens a book over the keeper, has all lanes work at once until they end (`sat_term`), and writes how many
-//!   entries there were. What happened is its [`Term`].
+//!   entries there were. What happened is its [`Term`];
+//! - `sheet` opens a book over the keeper and writes the sheet of a month that is closed (`tally_payout`).
 //!
 //! Each status has its cause; what a run wrote, left in the keeper and left in the history stands in its clauses.
 //!
@@ -18,9 +19,11 @@ mod ending;
 mod making;
 mod no_rounds;
 mod opening;
+mod printing;
 mod serving;
 mod top;
 mod world;
+mod worlds;
 
 pub use command_line::{Command, LineErr, read_line};
 pub use sat_console::Status;

@@ -1,9 +1,9 @@
 // The top call.
-ghost use Rattle.std.specs.Prelude.{◌≡◌, ◌≤◌, ◌↔◌, ◌⊎◌, ℕ, List, [], Some, None, IfSome, length, map, MatchResult, false};
+ghost use Rattle.std.specs.Prelude.{◌≡◌, ◌≤◌, ◌⊎◌, ◌&&◌, ℕ, List, [], Some, None, IfSome, length, map, MatchResult, false, true};
 ghost use Rattle.sat_base.specs.Outside.{Rose};
 ghost use Rattle.sat_base.specs.Rows.{AreThe, Rows};
-ghost use Rattle.command_line.specs.Command.{NewStore, Server, command_of, names_store};
-ghost use Rattle.command_line.specs.Command.Asked.{settle, judge, init, serve};
+ghost use Rattle.command_line.specs.Command.{MonthSheet, NewStore, Server, command_of, names_store};
+ghost use Rattle.command_line.specs.Command.Asked.{settle, judge, init, serve, sheet};
 ghost use Rattle.sat_book.specs.Book.{BookView, start_of};
 ghost use Rattle.sat_book.specs.Openings.{Opens};
 ghost use Rattle.sat_console.specs.Answers.{IsSettleText, answers_to};
@@ -14,11 +14,12 @@ ghost use Rattle.sat_init.specs.Init.{IsMade};
 ghost use Rattle.sat_init.specs.declared.setup.Setup.{Setup};
 ghost use Rattle.sat_rounds.specs.Lanes.{post_view};
 ghost use Rattle.satellite_cli.specs.Making.{Inits, IsAsked};
+ghost use Rattle.satellite_cli.specs.Ending.{is_served};
+ghost use Rattle.satellite_cli.specs.Printing.{IsPrinted};
 ghost use Rattle.satellite_cli.specs.Serving.{AreSound, IsIdle, IsTerm, NoneRose, NotOpened};
 
-use crate::making::make_store;
-use crate::serving::{Run, serve};
 use crate::world::{Ended, World};
+use crate::worlds::{ended, init_world, serve_world, sheet_world};
 use command_line::{Command, LineErr, read_line};
 use sat_base::{Clock, Gate, Keeper, Lane, Line, Link, Words};
 use sat_console::{Status, fault, judge, settle};
@@ -27,115 +28,12 @@ use std::alloc::Global;
 use std::sync::Wait;
 use std::thread::Threads;
 
-fn ended<C: Link, K: Keeper + Send, L: Lane, N, T: Clock + Send, W: Words + Send, I, G: Gate>(
-    status: Status,
-    world: World<C, K, L, N, T, W, I, G>,
-) -> Ended<C, K, L, N, T, W, I, G>
-    ensures { result ≡ record { status = code_of status; world = world; term = None } }
+// Says that a command isn't there yet, as of one that there isn't.
+fn unserved<C: Link>(console: &mut C) -> Status
+    ensures status { code_of result ≡ 2 }
+    ensures says { Says (fault_line 2) (C.about console.old) (C.about console.new) }
 {
-    Ended {
-        status: status.code(),
-        world,
-        term: None,
-    }
-}
-
-// `init` over a world.
-fn init_world<C: Link, K: Keeper + Send, L: Lane, N, T: Clock + Send, W: Words + Send, I, G: Gate>(
-    alloc: Global,
-    setup: &Setup,
-    world: World<C, K, L, N, T, W, I, G>,
-) -> Ended<C, K, L, N, T, W, I, G>
-    ensures not_usage { result.status ≡ 2 → ⊥ }
-    ensures inits { Inits setup.now (record {
-      coming = T.coming world.audit.clock;
-      coming_after = T.coming result.world.audit.clock;
-      words = W.left world.audit.words;
-      words_after = W.left result.world.audit.words;
-    }) result.status (C.about world.console) (C.about result.world.console)
-        (K.faults world.keeper) (K.faults result.world.keeper)
-        (W.faults world.audit.words) (W.faults result.world.audit.words)
-        (K.is_open result.world.keeper × K.tells world.keeper) (K.rows world.keeper) (K.rows result.world.keeper) }
-    ensures kits { (result.world.repair ≡ world.repair) × (result.world.tally ≡ world.tally) × (result.world.gate ≡ world.gate) }
-    ensures crash { K.is_clean result.world.keeper → (m : Rows) → K.leaves result.world.keeper m → K.leaves world.keeper m
-        ⊎ (K.is_open world.keeper × IsMade setup.now (K.tells world.keeper) (K.rows world.keeper) m) }
-{
-    let mut world = world;
-    let status = make_store(
-        alloc,
-        setup,
-        &mut world.console,
-        &mut world.keeper,
-        &mut world.audit.clock,
-        &mut world.audit.words,
-    );
-    ended(status, world)
-}
-
-// `serve` over a world.
-fn serve_world<
-    C: Link,
-    K: Keeper + Send,
-    L: Lane,
-    N,
-    T: Clock + Send,
-    W: Words + Send,
-    I,
-    G: Gate,
-    R: Threads + Wait + Sync,
->(
-    rt: &R,
-    alloc: Global,
-    term: u64,
-    world: World<C, K, L, N, T, W, I, G>,
-) -> Ended<C, K, L, N, T, W, I, G>
-    requires term { (1 ≤ term) × (term ≤ 65536) }
-    requires few { length world.posts.items ≤ 16 }
-    ensures not_usage { result.status ≡ 2 → ⊥ }
-    ensures closed { result.term ≡ None → NotOpened K.faults K.is_clean K.is_open K.tells K.rows K.leaves
-        world.keeper result.world.keeper result.status (C.about world.console) (C.about result.world.console) }
-    ensures term { IfSome result.term (λ t. (book : BookView K) × Opens K.faults K.is_clean K.is_open K.tells K.rows K.leaves
-        world.keeper term book
-        × (IsTerm K.faults K.is_clean K.is_open K.tells K.rows K.leaves (start_of book.opening).setup.secret term book result.world.keeper t
-        result.status (C.about world.console) (C.about result.world.console)
-        (map (post_view L.about T.coming W.left W.faults) world.posts.items)
-        (map (post_view L.about T.coming W.left W.faults) result.world.posts.items)
-        ⊎ IsIdle K.faults K.is_clean K.is_open K.tells K.rows K.leaves (length world.posts.items) book result.world.keeper t
-        result.status (C.about world.console) (C.about result.world.console)
-        (map (post_view L.about T.coming W.left W.faults) world.posts.items)
-        (map (post_view L.about T.coming W.left W.faults) result.world.posts.items))) }
-    ensures audit { result.world.audit ≡ world.audit }
-    ensures kits { (result.world.repair ≡ world.repair) × (result.world.tally ≡ world.tally) × (result.world.gate ≡ world.gate) }
-{
-    let World {
-        mut console,
-        keeper,
-        posts,
-        audit,
-        repair,
-        tally,
-        gate,
-    } = world;
-    let run = serve(rt, alloc, term, &mut console, keeper, posts, &gate);
-    let Run {
-        status,
-        keeper,
-        posts,
-        term,
-    } = run;
-    Ended {
-        status: status.code(),
-        world: World {
-            console,
-            keeper,
-            posts,
-            audit,
-            repair,
-            tally,
-            gate,
-        },
-        term,
-    }
+    fault(console, Status::Usage)
 }
 
 /// Runs the command that the words are, over the devices of a world.
@@ -144,6 +42,7 @@ fn serve_world<
 /// `judge` reads the answers to an audit of one stripe, one a line as `INDEX HEX` by rising index, and writes one
 /// line, which says the indexes whose shares were altered. Both take an input of at most 1048576 bytes.
 /// `init` makes a store in the keeper, which has to have no rows, and writes the operator's key.
+/// `sheet` prints what each node's operator is owed for a month that is closed.
 ///
 /// The status says how it ended; each has its cause. The console's faults are counted by it.
 pub fn satellite<
@@ -164,9 +63,12 @@ pub fn satellite<
 ) -> Ended<C, K, L, N, T, W, I, G>
     requires { length world.posts.items ≤ 16 }
 
-    // 2 exactly where the words are outside the grammar, and then the console says so.
-    ensures usage { (result.status ≡ 2) ↔ (command_of line.now ≡ None) }
-    ensures usage_line { command_of line.now ≡ None →
+    // 2 where the words are outside the grammar, or ask for a drill, which isn't made yet, and else nowhere; and
+    // then the console says so. Words that name a store may also meet the want of memory.
+    ensures usage { command_of line.now ≡ None → result.status ≡ 2 }
+    ensures unserved { is_served (command_of line.now) ≡ false → (result.status ≡ 2) ⊎ ((result.status ≡ 9) × (names_store (command_of line.now) ≡ true)) }
+    ensures only_usage { result.status ≡ 2 → is_served (command_of line.now) ≡ false }
+    ensures usage_line { result.status ≡ 2 →
         Says (fault_line (code_of Status.Usage)) (C.about world.console) (C.about result.world.console) }
 
     // `settle`: what was read and written, and the cause of each status. It refuses no input.
@@ -202,8 +104,8 @@ pub fn satellite<
         (λ shares. (result.status ≡ 0) ⊎ (result.status ≡ 9))
         (λ number. (result.status ≡ 8) ⊎ (result.status ≡ 9)) }
 
-    // A command without a store leaves all but the console as it was.
-    ensures idle { names_store (command_of line.now) ≡ false →
+    // A command without a store, or one that isn't served, leaves all but the console as it was.
+    ensures idle { (names_store (command_of line.now) && is_served (command_of line.now)) ≡ false →
         (result.world ≡ record world { console = result.world.console }) × (result.term ≡ None) }
 
     // `init`: the store that was made, and the key that was written; or why there is none, and the keeper's rows as they were.
@@ -261,6 +163,20 @@ pub fn satellite<
         (result.status ≡ 6 → ⊥) →
         (result.status ≡ 0) ⊎ (result.status ≡ 9) }
 
+    // `sheet`: why there is no book; or what was printed of it, and its keeper.
+    ensures sheet { (asked : MonthSheet) → command_of line.now ≡ Some (sheet asked) →
+        IsPrinted K.faults K.is_clean K.is_open K.tells K.rows K.leaves asked.month
+        world.keeper result.world.keeper result.status (C.about world.console) (C.about result.world.console)
+        × (result.world ≡ record world { console = result.world.console; keeper = result.world.keeper }) × (result.term ≡ None) }
+
+    // Over sound rows, while no count rises, and of a month that is closed: 0, or want of memory.
+    ensures sheet_complete { (asked : MonthSheet) → command_of line.now ≡ Some (sheet asked) →
+        K.is_open result.world.keeper → K.tells world.keeper → AreSound (K.rows world.keeper) →
+        (Rose (K.faults world.keeper) (K.faults result.world.keeper) → ⊥) →
+        (Rose (C.about world.console).write_faults (C.about result.world.console).write_faults → ⊥) →
+        (result.status ≡ 8 → ⊥) →
+        (result.status ≡ 0) ⊎ (result.status ≡ 9) }
+
     // There are no workers of rounds yet: their kits are handed back as they came, but for what `init` draws.
     ensures kits { (result.world.repair ≡ world.repair) × (result.world.tally ≡ world.tally) × (result.world.gate ≡ world.gate) }
     ensures audit { (server : Server) → command_of line.now ≡ Some (serve server) → result.world.audit ≡ world.audit }
@@ -291,6 +207,8 @@ pub fn satellite<
             return init_world(alloc, &setup, world);
         }
         Ok(Command::Serve { term, .. }) => return serve_world(rt, alloc, term, world),
+        Ok(Command::Sheet { month, .. }) => return sheet_world(alloc, month, world),
+        Ok(Command::Drill { .. }) => unserved(&mut world.console),
         Err(LineErr::Usage) => fault(&mut world.console, Status::Usage),
         Err(LineErr::NoMemory) => {
             let status = fault(&mut world.console, Status::NoMemory);

@@ -7,6 +7,10 @@ use Rattle.tally_payout.specs.declared.amounts.Statement.{Statement}
 abbrev pub tally_rank : Tally → ℕ
 tally_rank tally = tally.hour.0 * 2 ^ 32 + tally.node.0
 
+-- a month and a node as one number
+abbrev pub month_place : ℕ → ℕ → ℕ
+month_place month node = month * 2 ^ 32 + node
+
 -- a statement by its month, and then by its node
 abbrev pub statement_rank : Statement → ℕ
-statement_rank statement = statement.month.0 * 2 ^ 32 + statement.node.0
+statement_rank statement = month_place statement.month.0 statement.node.0

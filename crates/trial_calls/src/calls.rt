@@ -1,7 +1,8 @@
 // Calls, one a line: the name, the moment, and then the fields in their order.
-ghost use Rattle.std.specs.Prelude.{◌≡◌, length, IfOk};
+ghost use Rattle.std.specs.Prelude.{◌≡◌, ℕ, ◌<◌, length, slice_index_or, IfOk};
 ghost use Rattle.machine_step.specs.Step.{IsAsked};
 
+use crate::months::on_months;
 use crate::orders::order;
 use machine_calls::Call;
 use order_limits::Keys;
@@ -24,13 +25,13 @@ pub fn call(alloc: Global, keys: &Keys, fields: &mut Fields<'_>) -> Result<Call,
         "set-free" => set_free(fields)?,
         "exit" => exit(fields)?,
         "stop" => Call::Stop,
-        _ => return Err(LineErr::Bad),
+        word => on_months(word, fields)?,
     };
     fields.end()?;
     Ok(call)
 }
 
-fn moment(fields: &mut Fields<'_>) -> Result<Moment, LineErr> {
+pub(crate) fn moment(fields: &mut Fields<'_>) -> Result<Moment, LineErr> {
     Ok(Moment::of(fields.number()?))
 }
 
@@ -133,15 +134,22 @@ fn delete(fields: &mut Fields<'_>) -> Result<Call, LineErr>
     })
 }
 
+// A slice of bytes is one.
+fn are_bytes(bytes: &[u8])
+    ensures { (i : ℕ) → slice_index_or bytes.now i 0 < 256 }
+{
+    let _ = bytes;
+}
+
 // NOW NODE ORDER.
 fn settle(alloc: Global, keys: &Keys, fields: &mut Fields<'_>) -> Result<Call, LineErr>
     ensures { IfOk result IsAsked }
 {
-    Ok(Call::Settle {
-        now: moment(fields)?,
-        node: NodeId(fields.number()?),
-        bytes: Items::of(order(alloc, keys, fields)?),
-    })
+    let now = moment(fields)?;
+    let node = NodeId(fields.number()?);
+    let bytes = Items::of(order(alloc, keys, fields)?);
+    are_bytes(bytes.as_slice());
+    Ok(Call::Settle { now, node, bytes })
 }
 
 // NOW NODE FREE.

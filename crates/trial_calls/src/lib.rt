@@ -5,6 +5,7 @@
 #![tactic(auto)]
 
 mod calls;
+mod months;
 mod orders;
 mod plans;
 mod records;

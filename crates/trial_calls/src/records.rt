@@ -1,4 +1,5 @@
 // The records of a store, one a line: the name of the kind, and then the fields in their order.
+use crate::months::statement_of;
 use crate::plans::{audit_plan, digest, exit_plan, recheck_plan, repair_plan};
 use crate::segments::segment;
 use audit_core::{AuditPlan, RecheckPlan};
@@ -13,6 +14,7 @@ use sat_base::{
 use segment_core::Segment;
 use settlement::SettledRow;
 use std::alloc::Global;
+use tally_payout::{Statement, Tally};
 use trial_lines::{Fields, LineErr, asked, done};
 
 /// A record of any kind.
@@ -24,6 +26,8 @@ pub enum Record {
     Customer(Customer),
     Segment(Segment),
     Settled(SettledRow),
+    Tally(Tally),
+    Statement(Statement),
     AuditPlan(AuditPlan),
     RecheckPlan(RecheckPlan),
     RepairPlan(RepairPlan),
@@ -43,6 +47,8 @@ pub fn record_of(alloc: Global, fields: &mut Fields<'_>) -> Result<Record, LineE
         "customer" => Record::Customer(customer(fields)?),
         "segment" => Record::Segment(segment(alloc, fields)?),
         "settled" => Record::Settled(settled(fields)?),
+        "tally" => Record::Tally(tally(fields)?),
+        "statement" => Record::Statement(statement_of(fields)?),
         "audit-plan" => Record::AuditPlan(audit_plan(alloc, fields)?),
         "recheck-plan" => Record::RecheckPlan(recheck_plan(fields)?),
         "repair-plan" => Record::RepairPlan(repair_plan(alloc, fields)?),
@@ -80,6 +86,8 @@ pub fn put_record(parts: &mut Parts0, place: Option<usize>, record: Record) -> R
         Record::Customer(row) => put(&mut parts.customers, place, row),
         Record::Segment(row) => put(&mut parts.segments, place, row),
         Record::Settled(row) => put(&mut parts.settled, place, row),
+        Record::Tally(row) => put(&mut parts.tallies, place, row),
+        Record::Statement(row) => put(&mut parts.statements, place, row),
         Record::AuditPlan(row) => put(&mut parts.audit_plans, place, row),
         Record::RecheckPlan(row) => put(&mut parts.recheck_plans, place, row),
         Record::RepairPlan(row) => put(&mut parts.repair_plans, place, row),
@@ -100,6 +108,8 @@ pub fn clear(parts: &mut Parts0, kind: &str) -> Result<(), LineErr> {
         "customer" => parts.customers.clear(),
         "segment" => parts.segments.clear(),
         "settled" => parts.settled.clear(),
+        "tally" => parts.tallies.clear(),
+        "statement" => parts.statements.clear(),
         "audit-plan" => parts.audit_plans.clear(),
         "recheck-plan" => parts.recheck_plans.clear(),
         "repair-plan" => parts.repair_plans.clear(),
@@ -234,6 +244,15 @@ fn containment(fields: &mut Fields<'_>) -> Result<Containment, LineErr> {
         stripe,
         expect,
         tries,
+    })
+}
+
+// HOUR NODE BYTES.
+fn tally(fields: &mut Fields<'_>) -> Result<Tally, LineErr> {
+    Ok(Tally {
+        hour: Hour(fields.number()?),
+        node: NodeId(fields.number()?),
+        bytes: fields.number()?,
     })
 }
 

@@ -1,4 +1,5 @@
 // Replies in words. A record's fields follow in their order.
+use crate::months::told_statement;
 use crate::refusals::told_refusal;
 use machine_calls::Reply;
 use sat_base::{Done, NoMemory, Offer, Place};
@@ -14,6 +15,16 @@ pub fn told(alloc: Global, reply: &Reply) -> Result<String, NoMemory> {
         Reply::Exiting { node } => {
             let id = node.0;
             format!(in alloc; "exiting {id}")?
+        }
+        Reply::Statement(statement) => told_statement(alloc, statement)?,
+        Reply::Closed { month, fresh } => {
+            let month = month.0;
+            let when = if *fresh { "now" } else { "before" };
+            format!(in alloc; "closed {month} {when}")?
+        }
+        Reply::RatesSet { month } => {
+            let month = month.0;
+            format!(in alloc; "rates-set {month}")?
         }
         Reply::Stopping => String::from_str(alloc, "stopping")?,
         Reply::Refused(refusal) => told_refusal(alloc, refusal)?,

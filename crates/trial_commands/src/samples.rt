@@ -67,7 +67,7 @@ pub fn run(
     let status = match read_line(alloc, &line) {
         Ok(Command::Settle { secret, cap }) => settle(alloc, &mut console, secret, cap),
         Ok(Command::Judge { k, share }) => judge(alloc, &mut console, k, share),
-        Ok(_) => return Err("a store is named")?,
+        Ok(_) => return Err("other devices are needed")?,
         Err(LineErr::Usage) => fault(&mut console, Status::Usage),
         Err(LineErr::NoMemory) => fault(&mut console, Status::NoMemory),
     };

@@ -3,7 +3,7 @@ ghost use Rattle.std.specs.Prelude.{None};
 
 use http_edge::{EdgeErr, ReadErr, Wish, read_request};
 use order_limits::Keys;
-use sat_base::{MemConsole, NoMemory, Outside, Source, Taken};
+use sat_base::{MemConsole, Month, NoMemory, Outside, Rates, Source, Taken};
 use std::alloc::Global;
 
 // The indexes of a commit, or the bytes of an order.
@@ -19,6 +19,15 @@ fn listed(alloc: Global, numbers: &[u8]) -> Result<String, NoMemory> {
         text.push('-')?;
     }
     Ok(text)
+}
+
+fn rates_text(alloc: Global, month: Month, rates: &Rates) -> Result<String, NoMemory> {
+    let month = month.0;
+    let get = rates.get;
+    let audit = rates.audit;
+    let repair = rates.repair;
+    let storage = rates.storage;
+    Ok(format!(in alloc; "rates {month} {get} {audit} {repair} {storage}")?)
 }
 
 // What is asked, with its fields in their order.
@@ -77,6 +86,20 @@ fn asks(alloc: Global, wish: &Wish) -> Result<String, NoMemory> {
             let node = node.0;
             format!(in alloc; "set-free {node} {free}")?
         }
+        Wish::Exit { node } => {
+            let node = node.0;
+            format!(in alloc; "exit {node}")?
+        }
+        Wish::Statement { node, month } => {
+            let node = node.0;
+            let month = month.0;
+            format!(in alloc; "statement {node} {month}")?
+        }
+        Wish::CloseMonth { month } => {
+            let month = month.0;
+            format!(in alloc; "close {month}")?
+        }
+        Wish::SetRates { month, rates } => rates_text(alloc, *month, rates)?,
         Wish::Stop => String::from_str(alloc, "stop")?,
     })
 }

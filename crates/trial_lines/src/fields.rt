@@ -31,29 +31,35 @@ impl<T: Drop> From<AllocFailed<T>> for LineErr {
 /// A number of some width.
 pub trait Number: Sized {
     /// The number, where it fits.
-    fn of(wide: u64) -> Option<Self>;
+    fn of(wide: u128) -> Option<Self>;
 }
 
 impl Number for u8 {
-    fn of(wide: u64) -> Option<Self> {
+    fn of(wide: u128) -> Option<Self> {
         u8::try_from(wide).ok()
     }
 }
 
 impl Number for u16 {
-    fn of(wide: u64) -> Option<Self> {
+    fn of(wide: u128) -> Option<Self> {
         u16::try_from(wide).ok()
     }
 }
 
 impl Number for u32 {
-    fn of(wide: u64) -> Option<Self> {
+    fn of(wide: u128) -> Option<Self> {
         u32::try_from(wide).ok()
     }
 }
 
 impl Number for u64 {
-    fn of(wide: u64) -> Option<Self> {
+    fn of(wide: u128) -> Option<Self> {
+        u64::try_from(wide).ok()
+    }
+}
+
+impl Number for u128 {
+    fn of(wide: u128) -> Option<Self> {
         Some(wide)
     }
 }
@@ -124,10 +130,10 @@ impl<'a> Fields<'a> {
 
     /// The next word, as a number.
     pub fn number<N: Number>(&mut self) -> Result<N, LineErr> {
-        let Ok(wide) = self.word()?.parse::<u64>() else {
+        let Ok(wide) = self.word()?.parse::<u128>() else {
             return Err(LineErr::Bad);
         };
-        let number = N::of(wide.saturating_add(self.more));
+        let number = N::of(wide.saturating_add(u128::from(self.more)));
         self.more = 0;
         number.ok_or(LineErr::Bad)
     }

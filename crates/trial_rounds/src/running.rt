@@ -1,17 +1,19 @@
 // One round at a desk of its own.
-ghost use Rattle.std.specs.Prelude.{◌≡◌, ◌≤◌, IsSomeAnd};
+ghost use Rattle.std.specs.Prelude.{◌≡◌, ◌≤◌, IsSome, IsSomeAnd};
 ghost use Rattle.turnstile.specs.Known.{SameRights};
 ghost use Rattle.node_rounds.specs.Askable.{IsStoreOf};
 
 use bw_decode::Scratch;
-use node_rounds::{Kit, Store, audit_round, repair_round};
+use machine_calls::Call;
+use node_rounds::{Kit, Store, TallyKit, audit_round, repair_round, tally_round};
 use sat_base::{KeeperMem, MemClock, MemNodes, MemTicks, MemWords, OpenGate};
 use sat_book::{Book, Entry};
 use sat_rounds::{BookPass, Round};
 use std::alloc::Global;
+use std::mem;
 use std::sync::Wait;
 use trial_lines::LineErr;
-use turnstile::Desk;
+use turnstile::{Desk, Turned};
 
 /// The devices of a round in memory.
 pub type MemKit = Kit<MemNodes, MemClock, MemWords, MemTicks>;
@@ -21,6 +23,15 @@ pub type MemKit = Kit<MemNodes, MemClock, MemWords, MemTicks>;
 pub enum Which {
     Audit,
     Repair,
+    Tally,
+}
+
+/// The round that is due: over a term of so many entries, and whether the machine stops before it.
+#[derive(Clone, Copy, Debug, PartialEq, Eq)]
+pub struct Due {
+    pub which: Which,
+    pub term: u64,
+    pub stops: bool,
 }
 
 /// What a round leaves.
@@ -30,6 +41,46 @@ pub struct Ran {
     pub kit: MemKit,
     pub round: Round,
     pub history: Vec<Entry>,
+}
+
+// Stops the machine, where it is to stop.
+fn stop_at<R: Wait>(
+    rt: &R,
+    desk: &Desk<Book<KeeperMem>>,
+    pass: BookPass<KeeperMem>,
+    stops: bool,
+) -> BookPass<KeeperMem>
+    requires desk { pass.desk ≡ desk.now }
+    requires base { IsSome pass.base }
+    ensures { SameRights pass result }
+{
+    if !stops {
+        return pass;
+    }
+    match desk.enter(rt, pass, Call::Stop) {
+        Turned::Done(pass, _) => pass,
+        Turned::TermFull(pass, _) => pass,
+    }
+}
+
+// Makes a round of a tally at the desk, with the clock of a kit.
+fn tally_at<R: Wait>(
+    rt: &R,
+    alloc: Global,
+    desk: &Desk<Book<KeeperMem>>,
+    pass: BookPass<KeeperMem>,
+    kit: &mut MemKit,
+) -> (BookPass<KeeperMem>, Round)
+    requires desk { pass.desk ≡ desk.now }
+    requires base { IsSome pass.base }
+    ensures { SameRights pass result.0 }
+{
+    let clock = mem::replace(&mut kit.clock, MemClock::of(Vec::new(alloc)));
+    let ticks = MemTicks::of(0);
+    let mut tally = TallyKit { clock, ticks };
+    let (pass, round) = tally_round(rt, alloc, desk, pass, &mut tally);
+    kit.clock = tally.clock;
+    (pass, round)
 }
 
 // Makes the round at the desk.
@@ -52,20 +103,21 @@ fn round_at<R: Wait>(
     match which {
         Which::Audit => audit_round(rt, alloc, desk, pass, store, scratch, kit, &gate),
         Which::Repair => repair_round(rt, alloc, desk, pass, store, scratch, kit, &gate),
+        Which::Tally => tally_at(rt, alloc, desk, pass, kit),
     }
 }
 
-/// Opens a book over the keeper, makes one round at its desk, and closes it.
+/// Opens a book over the keeper, makes the round at its desk, where the machine may have stopped, and closes it.
 pub fn run<R: Wait>(
     rt: &R,
     alloc: Global,
     keeper: KeeperMem,
-    term: u64,
-    which: Which,
+    due: Due,
     kit: MemKit,
 ) -> Result<Ran, LineErr>
-    requires { (1 ≤ term) × (term ≤ 65536) }
+    requires { (1 ≤ due.term) × (due.term ≤ 65536) }
 {
+    let Due { which, term, stops } = due;
     let Ok(book) = Book::open(alloc, keeper, term) else {
         return Err(LineErr::Bad);
     };
@@ -74,6 +126,7 @@ pub fn run<R: Wait>(
     let Ok((desk, pass)) = Desk::new(alloc, book, term) else {
         return Err(LineErr::NoMemory);
     };
+    let pass = stop_at(rt, &desk, pass, stops);
     let mut kit = kit;
     let (pass, round) = round_at(
         rt,

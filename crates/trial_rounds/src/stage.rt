@@ -1,5 +1,5 @@
 // The store and the devices of the next round.
-use crate::running::{MemKit, Ran, Which, run};
+use crate::running::{Due, MemKit, Ran, Which, run};
 use crate::telling::{told_nodes, told_round};
 use node_rounds::Kit;
 use sat_base::{
@@ -27,6 +27,7 @@ pub struct Stage {
     words: Vec<u64>,
     words_failing: Vec<u64>,
     term: u64,
+    stops: bool,
 }
 
 fn copied(alloc: Global, piece: &Held) -> Result<Held, NoMemory> {
@@ -55,6 +56,7 @@ impl Stage {
             words: Vec::new(alloc),
             words_failing: Vec::new(alloc),
             term: TERM,
+            stops: false,
         }
     }
 
@@ -74,6 +76,7 @@ impl Stage {
         match line {
             "audit" => self.run(rt, Which::Audit),
             "repair" => self.run(rt, Which::Repair),
+            "tally" => self.run(rt, Which::Tally),
             "nodes" => Ok(told_nodes(self.alloc, &self.held)?),
             _ => {
                 self.note(line)?;
@@ -96,6 +99,7 @@ impl Stage {
             "moments" => self.moments = fields.numbers(self.alloc)?,
             "words" => self.note_words(&mut fields)?,
             "term" => self.term = fields.number()?,
+            "stop" => self.stops = true,
             _ => return Ok(self.changes.push(change_of_line(self.alloc, line)?)?),
         }
         fields.end()
@@ -176,7 +180,9 @@ impl Stage {
         let failing = mem::replace(&mut self.keeper_failing, Vec::new(self.alloc));
         let keeper = keeper_of(self.alloc, &self.changes, failing)?;
         let kit = self.kit();
-        let ran = run(rt, self.alloc, keeper, term, which, kit)?;
+        let stops = mem::replace(&mut self.stops, false);
+        let due = Due { which, term, stops };
+        let ran = run(rt, self.alloc, keeper, due, kit)?;
         self.told(&ran)
     }
 

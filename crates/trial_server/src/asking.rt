@@ -4,8 +4,11 @@ use order_limits::{Action, Keys, Limit, Order};
 use sat_base::{CustomerId, NodeId, SegId, Serial};
 use std::alloc::Global;
 
-/// The moment of all clocks: 2026-03-01.
+/// 2026-03-01.
 pub const NOW: u64 = 1_772_323_200;
+
+/// When that month is over.
+pub const APRIL: u64 = 1_775_001_600;
 
 // The secret of the store.
 const SECRET: [u8; 32] = [0; 32];
@@ -27,6 +30,32 @@ pub fn node(alloc: Global) -> Result<Vec<u8>> {
     let key = Keys::new(SECRET).operator();
     let body = r#"{"request":1,"addr":"10.0.1.1","port":7001,"free":1000}"#;
     post(alloc, "/op/nodes", &key, body)
+}
+
+/// Closes March.
+pub fn close(alloc: Global) -> Result<Vec<u8>> {
+    let body = r#"{"month":"2026-03"}"#;
+    post(alloc, "/op/close", &Keys::new(SECRET).operator(), body)
+}
+
+/// Sets the rates from this month on.
+pub fn rates(alloc: Global, month: &str) -> Result<Vec<u8>> {
+    let body = format!(in alloc;
+        "{{\"month\":\"{month}\",\"get\":1,\"audit\":2,\"repair\":3,\"storage\":4}}"
+    )?;
+    post(alloc, "/op/rates", &Keys::new(SECRET).operator(), &body)
+}
+
+/// The first node asks for its statement of March.
+pub fn statement(alloc: Global) -> Result<Vec<u8>> {
+    let key = hex::encode(alloc, Keys::new(SECRET).node(NodeId(1)))?;
+    let text = format!(in alloc; "GET /n/1/statement/2026-03 HTTP/1.1\r\nx-key: {key}\r\n\r\n")?;
+    Ok(Vec::from_slice(alloc, text.as_bytes())?)
+}
+
+/// The first node leaves.
+pub fn leave(alloc: Global) -> Result<Vec<u8>> {
+    post(alloc, "/n/1/exit", &Keys::new(SECRET).node(NodeId(1)), "{}")
 }
 
 /// Stops the machine.

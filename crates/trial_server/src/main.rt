@@ -1,7 +1,9 @@
 //! Runs of the top call over a database in memory, whose lane is a real port that a client in a thread asks.
 //!
 //! A store is made; a node and three orders come in a term of three; an order that settled and the one that didn't come in
-//! the next term over the same database, and a stop. What each is answered is a line of the output, the same at every run.
+//! the next term over the same database, the close of a month that runs, rates, and a stop. In the third the month is over
+//! and closed, the node asks for its statement and leaves; and then the month's sheet is printed. What each is answered is
+//! a line of the output, the same at every run.
 //! Nothing is promised beyond the contract of `satellite`.
 #![tactic(auto)]
 
@@ -9,9 +11,9 @@ mod asking;
 mod served;
 
 use anyhow::{Result, bail};
-use asking::{node, settle, stop};
+use asking::{APRIL, NOW, close, leave, node, rates, settle, statement, stop};
 use keeper_sqlite::KeeperSqlite;
-use served::{make, serve};
+use served::{Command, make, serve, sheet};
 use sqlite::Connection;
 
 fn main(rt: HostRuntime) -> Result<()> {
@@ -26,9 +28,38 @@ fn main(rt: HostRuntime) -> Result<()> {
         settle(alloc, 2, 20)?,
         settle(alloc, 3, 30)?,
     ];
-    let term = "serve --store s --port 1 --term 3";
-    let keeper = serve(&rt, &rt, term, keeper, &first)?;
-    let second = [settle(alloc, 2, 20)?, settle(alloc, 3, 30)?, stop(alloc)?];
-    let _keeper = serve(&rt, &rt, "serve --store s --port 1", keeper, &second)?;
+    let command = Command {
+        words: "serve --store s --port 1 --term 3",
+        now: NOW,
+    };
+    let keeper = serve(&rt, &rt, command, keeper, &first)?;
+    let command = Command {
+        words: "serve --store s --port 1",
+        now: NOW,
+    };
+    let second = [
+        settle(alloc, 2, 20)?,
+        settle(alloc, 3, 30)?,
+        close(alloc)?,
+        rates(alloc, "2026-03")?,
+        rates(alloc, "2026-04")?,
+        stop(alloc)?,
+    ];
+    let keeper = serve(&rt, &rt, command, keeper, &second)?;
+    let keeper = sheet(&rt, &rt, keeper)?;
+    let third = [
+        statement(alloc)?,
+        close(alloc)?,
+        close(alloc)?,
+        statement(alloc)?,
+        leave(alloc)?,
+        stop(alloc)?,
+    ];
+    let command = Command {
+        now: APRIL,
+        ..command
+    };
+    let keeper = serve(&rt, &rt, command, keeper, &third)?;
+    let _keeper = sheet(&rt, &rt, keeper)?;
     Ok(())
 }

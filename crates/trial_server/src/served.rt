@@ -48,14 +48,15 @@ fn line_of(alloc: Global, words: &str) -> Result<Line> {
     Ok(line)
 }
 
-fn clock(alloc: Global) -> Result<MemClock> {
-    Ok(MemClock::of(vec![in alloc; NOW; 16]?))
+// A clock that stands still.
+fn clock(alloc: Global, now: u64) -> Result<MemClock> {
+    Ok(MemClock::of(vec![in alloc; now; 16]?))
 }
 
 fn kit(alloc: Global) -> Result<Kit<(), MemClock, MemWords, MemTicks>> {
     Ok(Kit {
         nodes: (),
-        clock: clock(alloc)?,
+        clock: clock(alloc, NOW)?,
         words: MemWords::of(Vec::new(alloc), Vec::new(alloc)),
         ticks: MemTicks::of(0),
     })
@@ -83,11 +84,18 @@ fn run_over<
     satellite(rt, alloc, line, world)
 }
 
+// What is run, and the moment of all clocks.
+#[derive(Clone, Copy)]
+pub struct Command<'a> {
+    pub words: &'a str,
+    pub now: u64,
+}
+
 // Runs a command over a keeper and lanes.
 fn run<K: Keeper + Send, R: Threads + Wait + Sync>(
     handles: &R,
     alloc: Global,
-    words: &str,
+    command: Command<'_>,
     keeper: K,
     lanes: Vec<TcpLane<HostRuntime>>,
 ) -> Result<Ran<K>> {
@@ -95,7 +103,7 @@ fn run<K: Keeper + Send, R: Threads + Wait + Sync>(
     for lane in lanes {
         posts.push(Post {
             lane,
-            clock: clock(alloc)?,
+            clock: clock(alloc, command.now)?,
             words: MemWords::of(Vec::new(alloc), Vec::new(alloc)),
         })?;
     }
@@ -111,7 +119,7 @@ fn run<K: Keeper + Send, R: Threads + Wait + Sync>(
         tally: kit(alloc)?,
         gate: OpenGate::of(),
     };
-    Ok(run_over(handles, alloc, &line_of(alloc, words)?, world))
+    Ok(run_over(handles, alloc, &line_of(alloc, command.words)?, world))
 }
 
 fn tell(rt: &HostRuntime, what: &str, bytes: &[u8]) -> Result<()> {
@@ -152,33 +160,64 @@ fn left_of<K: Keeper>(ran: Ran<K>) -> Left<K> {
     }
 }
 
+// Runs a command without lanes, and tells how it ended under this name.
+fn tell_command<K: Keeper + Send, R: Threads + Wait + Sync>(
+    rt: &HostRuntime,
+    handles: &R,
+    name: &str,
+    words: &str,
+    keeper: K,
+) -> Result<K> {
+    let alloc = rt.alloc();
+    let command = Command { words, now: NOW };
+    let Left {
+        keeper,
+        status,
+        console,
+    } = left_of(run(handles, alloc, command, keeper, Vec::new(alloc))?);
+    tell(
+        rt,
+        &format!(in alloc; "{name} {status}")?,
+        console.written(),
+    )?;
+    Ok(keeper)
+}
+
 /// Makes a store in a keeper.
 pub fn make<K: Keeper + Send, R: Threads + Wait + Sync>(
     rt: &HostRuntime,
     handles: &R,
     keeper: K,
 ) -> Result<K> {
-    let alloc = rt.alloc();
-    let words = format!(in alloc; "{INIT} --secret {SECRET}")?;
-    let Left {
+    let words = format!(in rt.alloc(); "{INIT} --secret {SECRET}")?;
+    tell_command(rt, handles, "init", &words, keeper)
+}
+
+/// Prints the sheet of March.
+pub fn sheet<K: Keeper + Send, R: Threads + Wait + Sync>(
+    rt: &HostRuntime,
+    handles: &R,
+    keeper: K,
+) -> Result<K> {
+    tell_command(
+        rt,
+        handles,
+        "sheet",
+        "sheet --store s --month 2026-03",
         keeper,
-        status,
-        console,
-    } = left_of(run(handles, alloc, &words, keeper, Vec::new(alloc))?);
-    tell(rt, &format!(in alloc; "init {status}")?, console.written())?;
-    Ok(keeper)
+    )
 }
 
 // Serves until the lane ends.
 fn serve_lane<K: Keeper + Send, R: Threads + Wait + Sync>(
     handles: &R,
     alloc: Global,
-    words: &str,
+    command: Command<'_>,
     keeper: K,
     lane: TcpLane<HostRuntime>,
 ) -> Option<Left<K>> {
     let lanes = Vec::from_array(alloc, [lane]).ok()?;
-    let ran = run(handles, alloc, words, keeper, lanes).ok()?;
+    let ran = run(handles, alloc, command, keeper, lanes).ok()?;
     Some(left_of(ran))
 }
 
@@ -209,7 +248,7 @@ fn asked_all(rt: &HostRuntime, port: u16, requests: &[Vec<u8>]) -> Option<Vec<Ve
 pub fn serve<K: Keeper + Send, R: Threads + Wait + Sync>(
     rt: &HostRuntime,
     handles: &R,
-    words: &str,
+    command: Command<'_>,
     keeper: K,
     requests: &[Vec<u8>],
 ) -> Result<K> {
@@ -218,7 +257,7 @@ pub fn serve<K: Keeper + Send, R: Threads + Wait + Sync>(
     let port = lane.port();
     let (left, answers) = join(
         handles,
-        move || serve_lane(handles, alloc, words, keeper, lane),
+        move || serve_lane(handles, alloc, command, keeper, lane),
         move || asked_all(rt, port, requests),
     );
     let (Some(left), Some(answers)) = (left, answers) else {

@@ -6,7 +6,8 @@ use order_limits::Keys;
 use record_rows::{
     Rec, RowErr, read, upgrade, write_audit_plan, write_containment, write_customer,
     write_exit_plan, write_kept, write_left, write_marks, write_node, write_recheck_plan,
-    write_repair_plan, write_segment, write_settings, write_settled, write_tariff,
+    write_repair_plan, write_segment, write_settings, write_settled, write_statement, write_tally,
+    write_tariff,
 };
 use repair_core::RepairPlan;
 use sat_base::{Asked, Change, Done, Kept, NoMemory, Row, kinds};
@@ -45,6 +46,8 @@ pub fn row_of(alloc: Global, record: &Record) -> Result<Option<Row>, NoMemory> {
         Record::Customer(one) => write_customer(alloc, one)?,
         Record::Segment(one) if one.pieces.len() <= 128 => write_segment(alloc, one)?,
         Record::Settled(one) => write_settled(alloc, one)?,
+        Record::Tally(one) => write_tally(alloc, one)?,
+        Record::Statement(one) => write_statement(alloc, one)?,
         Record::AuditPlan(one) if one.asked.len() <= 128 => write_audit_plan(alloc, one)?,
         Record::RecheckPlan(one) => write_recheck_plan(alloc, one)?,
         Record::RepairPlan(one) if is_short_plan(one) => write_repair_plan(alloc, one)?,

@@ -38,6 +38,10 @@ fn telling(alloc: Global, reply: &Reply) -> Result<String, NoMemory> {
         Reply::RepairEnded { version } => Ok(format!(in alloc; "repair-ended {version}")?),
         Reply::Unrepaired => Ok(String::from_str(alloc, "unrepaired")?),
         Reply::Superseded { planned, now } => Ok(format!(in alloc; "superseded {planned} {now}")?),
+        Reply::Tallied { hour, nodes } => {
+            let hour = hour.0;
+            Ok(format!(in alloc; "tallied {hour} {nodes}")?)
+        }
         Reply::Exited { node } => {
             let id = node.0;
             Ok(format!(in alloc; "exited {id}")?)

@@ -7,7 +7,7 @@ use crate::audits::{end_audit, end_recheck, plan_audit, plan_recheck};
 use crate::repairs::{end_exit, end_repair, plan_exit, plan_repair};
 use machine_calls::Call;
 use order_limits::Keys;
-use sat_base::Scheme;
+use sat_base::{Moment, Scheme};
 use std::alloc::Global;
 use trial_calls::call;
 use trial_lines::{Fields, LineErr};
@@ -17,6 +17,15 @@ fn request(alloc: Global, keys: &Keys, fields: &mut Fields<'_>) -> Result<Call, 
     ensures { IfOk result (λ call. (t : Tables) → IsWellFormed t call) }
 {
     call(alloc, keys, fields)
+}
+
+// NOW.
+fn tally_hour(fields: &mut Fields<'_>) -> Result<Call, LineErr>
+    ensures { IfOk result (λ call. (t : Tables) → IsWellFormed t call) }
+{
+    let now = Moment::of(fields.number()?);
+    fields.end()?;
+    Ok(Call::TallyHour { now })
 }
 
 /// The call that a line says, of a store with these keys and this scheme.
@@ -37,6 +46,7 @@ pub fn call_of(
         "end-recheck" => end_recheck(&mut ahead),
         "plan-repair" => plan_repair(alloc, &mut ahead),
         "end-repair" => end_repair(alloc, scheme, &mut ahead),
+        "tally-hour" => tally_hour(&mut ahead),
         "plan-exit" => plan_exit(alloc, &mut ahead),
         "end-exit" => end_exit(alloc, scheme, &mut ahead),
         _ => request(alloc, keys, fields),

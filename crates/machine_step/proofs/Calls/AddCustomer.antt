@@ -10,14 +10,14 @@ use Rattle.machine_step.specs.Tables.{Tables}
 use Rattle.machine_step.specs.Bounds.{IsValid}
 use Rattle.machine_step.proofs.Outcomes.{unless-P, of_caller-P}
 use Rattle.machine_step.proofs.RowLemmas.{and_of}
-use Rattle.machine_step.proofs.Fits.{After, still, fitting, timed_fit}
+use Rattle.machine_step.proofs.Fits.{After, still, fitting_apart, timed_fit}
 use Rattle.machine_step.specs.Calls.AddCustomer.{customer_added, add_customer}
 
 module _ (t : Tables) (v : IsValid t) (asking : Asking) (le : t.marks.time ≤ asking.time) (lt : asking.time < 2 ^ 36) (own : (asking.caller.0 == 0) ≡ true) where
   fit_customer_added : nat_le t.setup.caps.customers (length t.customers) ≡ false → After t (customer_added t asking)
   fit_customer_added room =
       let below : length t.customers < t.setup.caps.customers = grind (arith, nat_tests, room) in
-      fitting t v (customer_added t asking).changes
+      fitting_apart t v (customer_added t asking) refl
       (timed_fit t v asking.time le lt, (record { id = omega arith; room = below; added = omega arith }, (record { sound = and_of _ _ own refl; within = (tt, tt) }, tt)))
 
   pub fit_add_customer : After t (add_customer t asking)

@@ -23,8 +23,9 @@ use Rattle.machine_step.proofs.PieceLemmas.{known-places, length-places}
 use Rattle.machine_step.proofs.GrowthLemmas.{plan-most, AreLater, sound-fine}
 use Rattle.machine_step.proofs.RowLemmas.{length-with_row, and_of}
 use Rattle.machine_step.proofs.SegmentLemmas.{segments_new}
+use Rattle.machine_step.proofs.MarkLemmas.{month-open, hour-most}
 use Rattle.machine_step.proofs.Steady.{MarksFit}
-use Rattle.machine_step.proofs.Fits.{After, still, fitting, picks_found}
+use Rattle.machine_step.proofs.Fits.{After, still, fitting_apart, picks_found}
 use Rattle.machine_step.specs.Calls.Begin.{piece_len_of, fresh_of, terms_for, has_no_number, begun, begin}
 
 module _ (t : Tables) (v : IsValid t) (asking : Asking) (le : t.marks.time ≤ asking.time) (lt : asking.time < 2 ^ 36) where
@@ -36,7 +37,7 @@ module _ (t : Tables) (v : IsValid t) (asking : Asking) (le : t.marks.time ≤ a
       let marks : Marks = record t.marks { time = asking.time; segment = t.marks.segment + 1; serial = t.marks.serial + 1 } in
       let segment_lt : t.marks.segment < 2 ^ 63 = grind (arith, nat_tests, number) in
       let serial_lt : t.marks.serial < 2 ^ 63 = grind (arith, nat_tests, number) in
-      let later : AreLater t.marks marks = record { time = le; segment = omega arith; serial = omega arith; plan = omega arith; month = refl; hour = refl } in
+      let later : AreLater t.marks marks = record { time = le; segment = omega arith; serial = omega arith; plan = omega arith; month = omega arith; hour = omega arith } in
       let terms = terms_for t len words in
       let fresh = fresh_of t.setup in
       let product : t.setup.n * t.setup.fresh ≤ t.setup.n * 100 = mul-le-mul_left t.setup.n v.bounds.setup.fresh in
@@ -66,8 +67,8 @@ module _ (t : Tables) (v : IsValid t) (asking : Asking) (le : t.marks.time ≤ a
       let now : nat_le asking.time asking.time ≡ true = grind (arith, nat_tests) in
       let offer : is_sound_kept marks t.nodes t.customers kept ≡ true = and_of _ _ owner (and_of _ _ refl (and_of _ _ refl (and_of _ _ (known-places t.nodes t.nodes pieces known) (and_of _ _ drawn (and_of _ _ numbered (and_of _ _ own now)))))) in
       let few : length t.segments < t.setup.caps.segments = grind (arith, nat_tests, room) in
-      let fit : MarksFit t.marks marks = record { later = later; time = lt; segment = omega arith; serial = omega arith; plan = plan-most t.setup t.marks v.rules.marks } in
-      fitting t v (begun t asking len words).changes (
+      let fit : MarksFit t.marks marks = record { later = later; time = lt; begun = month-open t.setup t.marks asking.time le v.rules.marks; hour = hour-most t.setup t.marks asking.time le v.rules.marks; segment = omega arith; serial = omega arith; plan = plan-most t.setup t.marks v.rules.marks } in
+      fitting_apart t v (begun t asking len words) refl (
         fit,
         (
           record {

@@ -24,7 +24,7 @@ use Rattle.machine_step.proofs.RowLemmas.{found_rank, length-replaced, and_of}
 use Rattle.machine_step.proofs.SegmentLemmas.{IsNext, segments_set}
 use Rattle.machine_step.proofs.Validity.{segments_hold}
 use Rattle.machine_step.specs.Plans.{timed}
-use Rattle.machine_step.proofs.Fits.{After, still, fitting, fine_found, within_found, found_below, owned_found, timed_fit}
+use Rattle.machine_step.proofs.Fits.{After, still, fitting_apart, fine_found, within_found, found_below, owned_found, timed_fit}
 use Rattle.machine_step.specs.Calls.Commit.{live_of, committed, commit}
 
 module _ (t : Tables) (v : IsValid t) (asking : Asking) (le : t.marks.time ≤ asking.time) (lt : asking.time < 2 ^ 36) where
@@ -58,7 +58,7 @@ module _ (t : Tables) (v : IsValid t) (asking : Asking) (le : t.marks.time ≤ a
       let zero_is : found.version ≡ 0 = grind (arith, nat_tests, pending) in
       let next : IsNext found row = record { len = refl; version = omega arith; same = λ e. absurd (omega arith) } in
       let own : segment_at t.segments row.id.0 ≡ Some found = ap (λ (k : ℕ). segment_at t.segments k) same ∙ at in
-      fitting t v (committed t asking segment (live_of found indexes) indexes).changes (
+      fitting_apart t v (committed t asking segment (live_of found indexes) indexes) refl (
         timed_fit t v asking.time le lt,
         (
           record {

@@ -21,8 +21,9 @@ use Rattle.machine_step.proofs.SameLemmas.{same-audit, open-is}
 use Rattle.machine_step.proofs.Steady.{AllFit}
 use Rattle.machine_step.proofs.Fits.{After, still, fitting, timed_fit}
 use Rattle.machine_step.proofs.Drawn.{fit_superseded}
+use Rattle.machine_step.proofs.Paid.{IsStill, ledger-containments, paid_puts}
 use Rattle.machine_step.proofs.Batches.{CanUpdate, fit-append, fit-nodes, puts_of, nodes-put, OwedIn, fit-containments, each-mapped}
-use Rattle.machine_step.proofs.Rated.{can-outcome}
+use Rattle.machine_step.proofs.Rated.{can-outcome, still-outcome}
 use Rattle.sat_base.specs.declared.kinds.TheConstants as kinds
 
 module _ (t : Tables) (v : IsValid t) (time : ℕ) (le : t.marks.time ≤ time) (lt : time < 2 ^ 36) where
@@ -54,7 +55,8 @@ module _ (t : Tables) (v : IsValid t) (time : ℕ) (le : t.marks.time ≤ time) 
       let put : all_changed here (map changes.Node ns) ≡ record here { nodes = puts_of here.nodes ns } = nodes-put ns here in
       let contained : AllFit from (all_changed here (map changes.Node ns)) (map changes.Containment cs)
       = subst (λ (x : Tables). AllFit from x (map changes.Containment cs)) (sym put) (fit-containments from cs (record here { nodes = puts_of here.nodes ns }) (owing-here cs owes)) in
-      fitting t v (audit_ended t time judged).changes
+      let still_ns : Each (IsStill t.nodes) ns = each-mapped (IsStill t.nodes) (node_after t.nodes judged) judged.plan.asked (λ piece n is. still-outcome t.nodes piece.node (mark_of judged piece.index) n is) in
+      fitting t v (audit_ended t time judged) (paid_puts t here ns refl still_ns (map changes.Containment cs) (ledger-containments cs))
       (timed_fit t v time le lt, (inl refl, fit-append from (map changes.Node ns) (map changes.Containment cs) here (fit-nodes from ns here can) contained))
     where
       owing : (piece : At) (c : Containment) (free : Bool) (silent : Option Silent) → (has_stripe t.setup (segment_at t.segments judged.plan.segment.0) judged.plan.stripe ≡ true) × (nat_lt judged.plan.segment.0 t.marks.segment ≡ true)

@@ -14,7 +14,7 @@ use Rattle.audit_core.specs.declared.rechecking.Checked.{Checked}
 use Rattle.audit_core.specs.declared.rechecking.Checked.TheVariants as checks
 use Rattle.machine_calls.specs.declared.change.RecChange.TheVariants as changes
 use Rattle.machine_calls.specs.declared.refusal.Refusal.TheVariants as refusals
-use Rattle.machine_step.specs.Tables.{Tables, segment_at, all_changed}
+use Rattle.machine_step.specs.Tables.{Tables, ledger_of, segment_at, all_changed}
 use Rattle.machine_step.specs.Health.{after_outcome}
 use Rattle.machine_step.specs.Plans.{timed, same_recheck, is_open, open_number}
 use Rattle.machine_step.specs.Calls.EndRecheck.{is_as_planned, only, still_owed, settled_as, recheck_ended, recheck_void, end_recheck}
@@ -24,9 +24,12 @@ use Rattle.machine_step.proofs.Outcomes.{unless-P, if_found-P}
 use Rattle.machine_step.proofs.RowLemmas.{all-found, both, and_of}
 use Rattle.machine_step.proofs.Steady.{AllFit}
 use Rattle.machine_step.proofs.Validity.{steady_of}
-use Rattle.machine_step.proofs.Fits.{After, still, fitting, timed_fit}
+use Rattle.month_pay.specs.Keeping.{SamePay}
+use Rattle.month_pay.proofs.Steps.{same_self}
+use Rattle.machine_step.proofs.Fits.{After, still, fitting, fitting_apart, timed_fit}
+use Rattle.machine_step.proofs.Paid.{IsStill, paid_puts}
 use Rattle.machine_step.proofs.Batches.{CanUpdate, fit-append, fit-nodes}
-use Rattle.machine_step.proofs.Rated.{can-outcome}
+use Rattle.machine_step.proofs.Rated.{can-outcome, still-outcome}
 use Rattle.sat_base.specs.declared.kinds.TheConstants as kinds
 
 module _ (t : Tables) (v : IsValid t) (time : ℕ) (le : t.marks.time ≤ time) (lt : time < 2 ^ 36) where
@@ -35,7 +38,7 @@ module _ (t : Tables) (v : IsValid t) (time : ℕ) (le : t.marks.time ≤ time) 
   closing kind = all_changed t (changes.Marks (timed t.marks time) ∷ changes.Remove (keys.Plan kind) ∷ [])
 
   fit_recheck_void : After t (recheck_void t time)
-  fit_recheck_void = fitting t v (recheck_void t time).changes (timed_fit t v time le lt, (inr (inl refl), tt))
+  fit_recheck_void = fitting_apart t v (recheck_void t time) refl (timed_fit t v time le lt, (inr (inl refl), tt))
 
   fit_settled_as : (c : Containment) (mark : Mark) → AllFit t.marks.segment (closing kinds.RECHECK_PLAN) (settled_as t c mark)
   fit_settled_as c mark =
@@ -46,6 +49,18 @@ module _ (t : Tables) (v : IsValid t) (time : ℕ) (le : t.marks.time ≤ time) 
       listed None is = tt
       listed (Some n) is = (can-outcome t v c.node (Some mark) n is, tt)
 
+  paid_settled_as : (c : Containment) (mark : Mark) → SamePay (ledger_of t) (ledger_of (all_changed (closing kinds.RECHECK_PLAN) (settled_as t c mark)))
+  paid_settled_as c mark =
+      paid_puts t (closing kinds.RECHECK_PLAN) (option_to_list (after_outcome (node_at t.nodes c.node) mark)) refl (listed (after_outcome (node_at t.nodes c.node) mark) refl) (changes.Remove (keys.Containment c.node) ∷ []) (λ x. refl)
+    where
+      listed : (o : Option Node) → after_outcome (node_at t.nodes c.node) mark ≡ o → Each (IsStill t.nodes) (option_to_list o)
+      listed None is = tt
+      listed (Some n) is = (still-outcome t.nodes c.node (Some mark) n is, tt)
+
+  paid_silent_again : (c : Containment) (b : Bool) → SamePay (ledger_of t) (ledger_of (all_changed (closing kinds.RECHECK_PLAN) (if b then settled_as t c Fail else changes.Containment (record c { tries = c.tries + 1 }) ∷ [])))
+  paid_silent_again c true = paid_settled_as c Fail
+  paid_silent_again c false = same_self (ledger_of t)
+
   fit_silent_again : (c : Containment) → nat_le c.tries 2 ≡ true → has_stripe t.setup (segment_at t.segments c.segment.0) c.stripe ≡ true → nat_lt c.segment.0 t.marks.segment ≡ true → (b : Bool) → (c.tries + 1 == 3) ≡ b
       → AllFit t.marks.segment (closing kinds.RECHECK_PLAN) (if b then settled_as t c Fail else changes.Containment (record c { tries = c.tries + 1 }) ∷ [])
   fit_silent_again c tries stripe below true is = fit_settled_as c Fail
@@ -54,11 +69,11 @@ module _ (t : Tables) (v : IsValid t) (time : ℕ) (le : t.marks.time ≤ time) 
       (record { owed = and_of _ _ less stripe; below = below }, tt)
 
   fit_recheck_ended : (checked : Checked) (c : Containment) → is_owed t.setup t.segments c ≡ true → nat_lt c.segment.0 t.marks.segment ≡ true → After t (recheck_ended t time checked c)
-  fit_recheck_ended checks.Pass c owes below = fitting t v (recheck_ended t time checks.Pass c).changes (timed_fit t v time le lt, (inr (inl refl), fit_settled_as c Pass))
-  fit_recheck_ended checks.Fail c owes below = fitting t v (recheck_ended t time checks.Fail c).changes (timed_fit t v time le lt, (inr (inl refl), fit_settled_as c Fail))
+  fit_recheck_ended checks.Pass c owes below = fitting t v (recheck_ended t time checks.Pass c) (paid_settled_as c Pass) (timed_fit t v time le lt, (inr (inl refl), fit_settled_as c Pass))
+  fit_recheck_ended checks.Fail c owes below = fitting t v (recheck_ended t time checks.Fail c) (paid_settled_as c Fail) (timed_fit t v time le lt, (inr (inl refl), fit_settled_as c Fail))
   fit_recheck_ended checks.Silent c owes below =
       let parts = both (nat_le c.tries 2) (has_stripe t.setup (segment_at t.segments c.segment.0) c.stripe) owes in
-      fitting t v (recheck_ended t time checks.Silent c).changes (timed_fit t v time le lt, (inr (inl refl), fit_silent_again c parts.0 parts.1 below (c.tries + 1 == 3) refl))
+      fitting t v (recheck_ended t time checks.Silent c) (paid_silent_again c (c.tries + 1 == 3)) (timed_fit t v time le lt, (inr (inl refl), fit_silent_again c parts.0 parts.1 below (c.tries + 1 == 3) refl))
 
   only-is : (test : Containment → Bool) (found : Option Containment) (c : Containment) → only test found ≡ Some c → (found ≡ Some c) × (test c ≡ true)
   only-is test None c is = cc

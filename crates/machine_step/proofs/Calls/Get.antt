@@ -20,8 +20,9 @@ use Rattle.machine_step.proofs.Outcomes.{unless-P, with_record-P, of_customer-P}
 use Rattle.machine_step.proofs.PieceLemmas.{length-filtered, known-healthy, known-places, length-places}
 use Rattle.machine_step.proofs.GrowthLemmas.{plan-most, AreLater, segment-most}
 use Rattle.machine_step.proofs.RowLemmas.{and_of}
+use Rattle.machine_step.proofs.MarkLemmas.{month-open, hour-most}
 use Rattle.machine_step.proofs.Steady.{MarksFit}
-use Rattle.machine_step.proofs.Fits.{After, still, fitting, within_found, found_below, owned_found}
+use Rattle.machine_step.proofs.Fits.{After, still, fitting_apart, within_found, found_below, owned_found}
 use Rattle.machine_step.specs.Calls.Begin.{piece_len_of}
 use Rattle.machine_step.specs.Health.{healthy_of}
 use Rattle.machine_step.specs.Calls.Get.{offered, get}
@@ -32,7 +33,7 @@ module _ (t : Tables) (v : IsValid t) (asking : Asking) (le : t.marks.time ≤ a
   fit_offered segment found owner at number =
       let marks : Marks = record t.marks { time = asking.time; serial = t.marks.serial + 1 } in
       let serial_lt : t.marks.serial < 2 ^ 63 = grind (arith, nat_tests, number) in
-      let later : AreLater t.marks marks = record { time = le; segment = omega arith; serial = omega arith; plan = omega arith; month = refl; hour = refl } in
+      let later : AreLater t.marks marks = record { time = le; segment = omega arith; serial = omega arith; plan = omega arith; month = omega arith; hour = omega arith } in
       let pieces = healthy_of t found in
       let w = within_found t v segment.0 found at in
       let below = found_below t v segment.0 found at in
@@ -41,8 +42,8 @@ module _ (t : Tables) (v : IsValid t) (asking : Asking) (le : t.marks.time ≤ a
       let drawn : nat_lt t.marks.serial (t.marks.serial + 1) ≡ true = grind (arith, nat_tests) in
       let now : nat_le asking.time asking.time ≡ true = grind (arith, nat_tests) in
       let offer : is_sound_kept marks t.nodes t.customers kept ≡ true = and_of _ _ owner (and_of _ _ below (and_of _ _ refl (and_of _ _ (known-places t.nodes t.nodes pieces (known-healthy t.nodes found.pieces)) (and_of _ _ drawn (and_of _ _ below (and_of _ _ own now)))))) in
-      let fit : MarksFit t.marks marks = record { later = later; time = lt; segment = segment-most t.setup t.marks v.rules.marks; serial = omega arith; plan = plan-most t.setup t.marks v.rules.marks } in
-      fitting t v (offered t asking segment found).changes
+      let fit : MarksFit t.marks marks = record { later = later; time = lt; begun = month-open t.setup t.marks asking.time le v.rules.marks; hour = hour-most t.setup t.marks asking.time le v.rules.marks; segment = segment-most t.setup t.marks v.rules.marks; serial = omega arith; plan = plan-most t.setup t.marks v.rules.marks } in
+      fitting_apart t v (offered t asking segment found) refl
       (fit, (record { sound = offer; within = (tt, omega (arith, length-places t.nodes pieces, length-filtered (is_healthy t.nodes) found.pieces, w.few)) }, tt))
 
   pub fit_get : (segment : SegId) → After t (get t asking segment)

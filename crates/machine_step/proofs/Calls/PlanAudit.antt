@@ -1,5 +1,5 @@
 -- What a planned audit changes fits.
-use Rattle.std.proofs.Common.{◌≡◌, ℕ, ◌<◌, ◌≤◌, ◌^◌, true, false, List, Some, arith}
+use Rattle.std.proofs.Common.{◌≡◌, ℕ, ◌<◌, ◌≤◌, ◌^◌, true, false, List, Some, refl, arith}
 use Rattle.std.specs.Prelude.{nat_lt, slice_index}
 use Rattle.std.proofs.lemmas.Bool.Decides.{nat_tests}
 use Rattle.sat_base.specs.Scheme.{stripe_count}
@@ -16,7 +16,7 @@ use Rattle.machine_step.specs.PlanRules.{is_planned_of, stripes_of, is_audit_of}
 use Rattle.machine_step.specs.Bounds.{IsValid}
 use Rattle.machine_step.proofs.Outcomes.{unless-P, with_record-P}
 use Rattle.machine_step.proofs.RowLemmas.{and_of}
-use Rattle.machine_step.proofs.Fits.{After, still, fitting, fine_found}
+use Rattle.machine_step.proofs.Fits.{After, still, fitting_apart, fine_found}
 use Rattle.machine_step.proofs.Drawn.{live-found, some-within, among-some, drawn_fit, is_drawn_now, version_now}
 
 module _ (t : Tables) (v : IsValid t) (time : ℕ) (le : t.marks.time ≤ time) (lt : time < 2 ^ 36) where
@@ -32,7 +32,7 @@ module _ (t : Tables) (v : IsValid t) (time : ℕ) (le : t.marks.time ≤ time) 
       let of : is_audit_of t.setup plan found ≡ true = and_of _ _ stripe (among-some found.pieces (is_asked t)) in
       let planned : is_planned_of (segment_at t.segments found.id.0) found.version (is_audit_of t.setup plan) ≡ true = rw at (grind (arith, nat_tests, of)) in
       let below : found.id.0 < t.marks.segment = let b = f.below in grind (arith, nat_tests, b) in
-      fitting t v (audit_planned t time plan).changes (
+      fitting_apart t v (audit_planned t time plan) refl (
         drawn_fit t v time le lt number,
         (
           record {

@@ -11,7 +11,7 @@ use Rattle.node_registry.specs.declared.node.Node.{Node}
 use Rattle.node_registry.specs.declared.node.Left.{Left}
 use Rattle.node_registry.specs.declared.node.Status.{Status}
 use Rattle.node_registry.specs.declared.node.Status.TheVariants.{Active, Disqualified, Exiting, Exited}
-use Rattle.node_registry.specs.Standing.{is_counted}
+use Rattle.node_registry.specs.Standing.{is_counted, is_disqualified}
 use Rattle.node_registry.specs.Registry.{node_rank, node_at}
 use Rattle.segment_core.specs.Record.{SegmentRecord, segment_rank}
 use Rattle.segment_core.specs.Health.{is_healthy, is_counting}
@@ -23,7 +23,7 @@ use Rattle.machine_calls.specs.declared.change.RecChange.TheVariants as changes
 use Rattle.machine_calls.specs.declared.refusal.Refusal.TheVariants as refusals
 use Rattle.machine_calls.specs.declared.refusal.TableName.TheVariants as names
 use Rattle.node_registry.specs.Left.{left_rank}
-use Rattle.machine_step.specs.Tables.{Tables, segment_at}
+use Rattle.machine_step.specs.Tables.{Tables, ledger_of, segment_at, all_changed}
 use Rattle.machine_step.specs.Containment.{has_piece, is_live}
 use Rattle.machine_step.specs.Health.{healthy_of, picked}
 use Rattle.machine_step.specs.Places.{picks_of, subnets_of, addr_of}
@@ -35,15 +35,19 @@ use Rattle.machine_step.specs.Rules.{first_bad, breaks_node, is_known, are_known
 use Rattle.machine_step.specs.PlanRules.{is_planned_of, is_target_of, is_move_of, is_exited, is_sound_left, is_accounted}
 use Rattle.machine_step.specs.Bounds.{Each, IsValid}
 use Rattle.machine_step.proofs.Outcomes.{unless-P, with_record-P, if_found-P}
-use Rattle.machine_step.proofs.RowLemmas.{row_at-with_row, rising-with_row, all-with_row, both, and_of}
+use Rattle.machine_step.proofs.RowLemmas.{row_at-with_row, rising-with_row, all-with_row, all-found, found_rank, both, and_of}
 use Rattle.machine_step.proofs.PieceLemmas.{known-healthy}
 use Rattle.machine_step.proofs.PickLemmas.{got-picks}
 use Rattle.machine_step.proofs.GrowthLemmas.{extends_set, nodes-set, found-got}
 use Rattle.machine_step.proofs.IndexLemmas.{by_index-rising}
 use Rattle.machine_step.proofs.Hold.{LeftHold}
-use Rattle.machine_step.proofs.Changes.{all_become, steady_leaving}
+use Rattle.machine_step.proofs.Changes.{steady_leaving}
+use Rattle.machine_step.proofs.Becoming.{all_become}
+use Rattle.machine_step.proofs.MarkLemmas.{month-open}
+use Rattle.machine_step.proofs.Paid.{paid_same}
+use Rattle.month_pay.proofs.Steps.{same_then, same_set, same_left}
 use Rattle.machine_step.proofs.Validity.{steady_of}
-use Rattle.machine_step.proofs.Fits.{After, still, fitting, fine_found, picks_found, timed_fit}
+use Rattle.machine_step.proofs.Fits.{After, still, fitting_apart, fine_found, picks_found, timed_fit}
 use Rattle.machine_step.proofs.Drawn.{some-within, among-some, drawn_fit, is_drawn_now, version_now}
 use Rattle.machine_step.proofs.RowLemmas.{rising-got}
 use Rattle.machine_step.proofs.TakenLemmas.{OffTaken, off-picks, off-member}
@@ -69,6 +73,12 @@ module _ (t : Tables) (v : IsValid t) (time : ℕ) (le : t.marks.time ≤ time) 
   exiting-stays Disqualified h = cc
   exiting-stays Exiting h = refl
   exiting-stays Exited h = cc
+
+  exiting-serves : (status : Status) → is_exiting status ≡ true → is_disqualified status ≡ true → ⊥
+  exiting-serves Active h gone = cc
+  exiting-serves Disqualified h gone = cc
+  exiting-serves Exiting h gone = cc
+  exiting-serves Exited h gone = cc
 
   exiting-found : (word : ℕ) (node : Node) → picked (exiting_nodes t) word ≡ Some node → (is_exiting node.status ≡ true) × (node_at t.nodes node.id ≡ Some node)
   exiting-found word node is =
@@ -102,8 +112,26 @@ module _ (t : Tables) (v : IsValid t) (time : ℕ) (le : t.marks.time ≤ time) 
       } in
       let steady = steady_leaving from here s nodes left extends hold rows in
       let g = b.grows in
-      (record { steady = steady; grows = record { setup = refl; later = g.later; extends = extends; stay = λ id h. h; segments = g.segments } }, (tt, (tt, (tt, tt))))
+      let set = same_set (ledger_of t) gone node at (record { id = refl; joined = refl; gone = λ disqualified. absurd (exiting-serves node.status exiting disqualified) }) in
+      let first_row : row_at left_rank t.left node.id.0 ≡ None = none-left (row_at left_rank t.left node.id.0) refl in
+      let pay = same_then (ledger_of t) (record (ledger_of t) { nodes = nodes }) (record (ledger_of t) { nodes = nodes; left = left }) set
+      (same_left (record (ledger_of t) { nodes = nodes }) row first_row (month-open t.setup t.marks time le v.rules.marks)) in
+      record {
+        becomes = record { steady = steady; grows = record { setup = refl; later = g.later; extends = extends; stay = λ id h. h; segments = g.segments } };
+        paid = paid_same t v (all_changed t (node_exited t time node).changes) pay;
+        written = (tt, (tt, (tt, tt)));
+      }
     where
+      -- a node that stays has no row yet
+      none-left : (found : Option Left) → row_at left_rank t.left node.id.0 ≡ found → row_at left_rank t.left node.id.0 ≡ None
+      none-left None is = is
+      none-left (Some old) is =
+          let sound : is_sound_left t.marks t.nodes old ≡ true = all-found left_rank (is_sound_left t.marks t.nodes) t.left node.id.0 old (steady_of t v).left.all is in
+          let own : old.node.0 ≡ node.id.0 = found_rank left_rank t.left node.id.0 old is in
+          let there : node_at t.nodes old.node ≡ Some node = ap (λ (k : ℕ). row_at node_rank t.nodes k) own ∙ at in
+          let stays = exiting-stays node.status exiting in
+          absurd (grind (arith, nat_tests, sound, there, stays))
+
       weaker : {X : Type 0} (strong weak : X → Bool) (xs : List X) → ((x : X) → strong x ≡ true → weak x ≡ true) → list_all strong xs ≡ true → list_all weak xs ≡ true
       weaker strong weak [] so all = refl
       weaker strong weak (x ∷ xs) so all =
@@ -168,7 +196,7 @@ module _ (t : Tables) (v : IsValid t) (time : ℕ) (le : t.marks.time ≤ time) 
       let own : is_move_of move found ≡ true = and_of _ _ (and_of _ _ len (among-some found.pieces (is_healthy t.nodes))) has in
       let planned : is_planned_of (segment_at t.segments found.id.0) found.version (is_move_of move) ≡ true = rw at (grind (arith, nat_tests, own)) in
       let low : nat_lt leaving.index limits.PLACES ≡ true = below-place limits.PLACES sources leaving (some-within t v (is_healthy t.nodes) found.id.0 found at).below has in
-      fitting t v (exit_planned t time move target).changes (
+      fitting_apart t v (exit_planned t time move target) refl (
         drawn_fit t v time le lt number,
         (
           record {

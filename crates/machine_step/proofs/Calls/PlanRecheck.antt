@@ -17,7 +17,7 @@ use Rattle.machine_step.specs.Bounds.{IsValid}
 use Rattle.machine_step.proofs.Outcomes.{unless-P, with_record-P}
 use Rattle.machine_step.proofs.RowLemmas.{both, and_of}
 use Rattle.machine_step.proofs.Validity.{steady_of, all_stand}
-use Rattle.machine_step.proofs.Fits.{After, still, fitting}
+use Rattle.machine_step.proofs.Fits.{After, still, fitting_apart}
 use Rattle.machine_step.proofs.Drawn.{drawn_fit, is_drawn_now}
 
 module _ (t : Tables) (v : IsValid t) (time : ℕ) (le : t.marks.time ≤ time) (lt : time < 2 ^ 36) where
@@ -28,7 +28,7 @@ module _ (t : Tables) (v : IsValid t) (time : ℕ) (le : t.marks.time ≤ time) 
   fit_recheck_planned : (c : Containment) → stands t c ≡ true → nat_lt c.segment.0 t.marks.segment ≡ true → has_no_plan t.marks ≡ false → After t (recheck_planned t time c)
   fit_recheck_planned c standing below number =
       let serving : serves (node_at t.nodes c.node) ≡ true = (both (serves (node_at t.nodes c.node)) (has_live_piece (segment_at t.segments c.segment.0) (place_of c)) standing).0 in
-      fitting t v (recheck_planned t time c).changes
+      fitting_apart t v (recheck_planned t time c) refl
       (drawn_fit t v time le lt number, (record { sound = and_of _ _ (is_drawn_now t v time le lt c.segment.0 below) (known-serving (node_at t.nodes c.node) serving) }, tt))
 
   pub fit_plan_recheck : After t (plan_recheck t time)

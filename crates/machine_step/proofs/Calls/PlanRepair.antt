@@ -26,7 +26,7 @@ use Rattle.machine_step.proofs.RowLemmas.{and_of}
 use Rattle.machine_step.proofs.PieceLemmas.{all-filtered, apart-filtered, below-most}
 use Rattle.machine_step.proofs.PickLemmas.{got-picks, length-picks, apart-picks, length-ids}
 use Rattle.machine_step.proofs.IndexLemmas.{by_index-rising, few-pieces}
-use Rattle.machine_step.proofs.Fits.{After, still, fitting, fine_found, picks_found}
+use Rattle.machine_step.proofs.Fits.{After, still, fitting_apart, fine_found, picks_found}
 use Rattle.machine_step.proofs.Drawn.{some-within, among-some, drawn_fit, is_drawn_now, version_now}
 use Rattle.machine_step.proofs.RowLemmas.{rising-got}
 use Rattle.machine_step.proofs.FreeIndexes.{range-rising, range-below, range-length, rising-kept, free-count, length-paired, rising-paired, all-paired, known-paired, subnets-paired}
@@ -102,7 +102,7 @@ module _ (t : Tables) (v : IsValid t) (time : ℕ) (le : t.marks.time ≤ time) 
       let own : is_repair_of plan found ≡ true = and_of _ _ (len_same found.len) (among-some found.pieces (is_healthy t.nodes)) in
       let whole : is_whole_repair_of t.setup t.nodes plan found ≡ true = and_of _ _ own (and_of _ _ enough are) in
       let planned : is_planned_of (segment_at t.segments found.id.0) found.version (is_whole_repair_of t.setup t.nodes plan) ≡ true = rw at (grind (arith, nat_tests, whole)) in
-      fitting t v (repair_planned t time plan).changes (
+      fitting_apart t v (repair_planned t time plan) refl (
         drawn_fit t v time le lt number,
         (
           record {

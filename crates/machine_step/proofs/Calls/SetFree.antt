@@ -7,7 +7,8 @@ use Rattle.node_registry.specs.declared.node.Node.{Node}
 use Rattle.node_registry.specs.Registry.{node_rank, node_at}
 use Rattle.machine_calls.specs.declared.reply.Reply.TheVariants as replies
 use Rattle.machine_calls.specs.declared.refusal.Refusal.TheVariants as refusals
-use Rattle.machine_step.specs.Tables.{Tables}
+use Rattle.month_pay.proofs.Steps.{same_set}
+use Rattle.machine_step.specs.Tables.{Tables, ledger_of}
 use Rattle.machine_step.specs.Outcome.{unchanged}
 use Rattle.machine_step.specs.Bounds.{IsValid}
 use Rattle.machine_step.proofs.Outcomes.{with_record-P, if-P}
@@ -21,7 +22,8 @@ module _ (t : Tables) (v : IsValid t) (time : ℕ) (le : t.marks.time ≤ time) 
   fit_free_set id found free at =
       let same : found.id.0 ≡ id.0 = found_rank node_rank t.nodes id.0 found at in
       let there : node_at t.nodes found.id ≡ Some found = ap (λ (k : ℕ). row_at node_rank t.nodes k) same ∙ at in
-      fitting t v (free_set t time found free).changes
+      let pay = same_set (ledger_of t) (record found { free = free }) found there (record { id = refl; joined = refl; gone = λ h. h }) in
+      fitting t v (free_set t time found free) pay
       (timed_fit t v time le lt, (update found there (record { addr = refl; joined = refl; rated = refl; exited = refl }), tt))
 
   pub fit_set_free : (node : NodeId) (free : ℕ) → After t (set_free t time node free)

@@ -9,6 +9,5 @@ returns c = record {
   settled = λ amount. refl;
   late = λ until. refl;
   few = λ have need. refl;
-  month = refl;
   field = refl;
 }

@@ -17,7 +17,7 @@ loop-first-preserved c =
       losses = omega (arith, fewer, c.loop-first.invariant.losses, c.change.ensures.losses);
       placed = placed-spared c.loop-first.store c.change.new.store c.in-Some.first (reverse c.pop.new.self.items) c.change.ensures.keeps parts.0 placed.1;
       orderly = parts.1;
-      own = c.change.ensures.own c.loop-first.invariant.own;
+      own = c.change.ensures.own;
       leads = ap (λ t. all_changed t (reverse c.pop.new.self.items)) c.change.ensures.tables ∙ sym (ap (λ cs. all_changed (tables_of c.loop-first.store) cs) turned) ∙ c.loop-first.invariant.leads;
     }
 

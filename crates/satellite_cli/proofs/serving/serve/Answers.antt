@@ -13,7 +13,7 @@ returns-in-Ok-serve_term-clause-term g c =
       c.in-Ok.ready.book,
       c.in-Ok.ensures.opened,
       inl (term_of g.K.Keeper.faults g.K.Keeper.is_clean g.K.Keeper.is_open g.K.Keeper.tells g.K.Keeper.rows g.K.Keeper.leaves _ _ _ c.in-Ok.ready.book _ _ c.in-Ok-serve_term.served.ends _ _ _ _ _ _ _ _ _
-          c.keys_of-keys.ensures s.clauses s.spell s.once s.keeps s.faults c.in-Ok.ensures.quiet c.deref.ensures.value c.deref-in-Ok-serve_term.ensures.value count c.finish-status.ensures),
+          c.keys_of-keys.ensures s.clauses s.spell s.once s.pays s.closed s.keeps s.faults c.in-Ok.ensures.quiet c.deref.ensures.value c.deref-in-Ok-serve_term.ensures.value count c.finish-status.ensures),
     )
 
 pub returns-in-Err-serve_term-clause-term : goal.returns-in-Err-serve_term-clause-term

@@ -1,12 +1,15 @@
-use Rattle.std.proofs.Common.{inl, inr, rules}
+use Rattle.std.proofs.Common.{ap, inl, inr, rules, ◌∙◌}
 use Rattle.sat_book.specs.Book.{start_of}
 use Rattle.sat_console.proofs.Once.{settles_once}
 use Rattle.sat_console.proofs.Runs.{judges_through, settles_through}
+use Rattle.sat_console.specs.Run.{code_of}
 use Rattle.sat_init.specs.declared.setup.Setup.{Setup}
-use Rattle.satellite_cli.proofs.Asking.{is_asked, same_term}
-use Rattle.satellite_cli.proofs.Ends.{serves_well}
+use Rattle.satellite_cli.proofs.Asking.{is_asked, same_month, same_term}
+use Rattle.satellite_cli.proofs.Ends.{not_usage, serves_well}
 use Rattle.satellite_cli.proofs.Inits.{inits_well}
-use Rattle.satellite_cli.proofs.top.satellite.Goals.{in-Ok-Settle, in-Ok-Judge, in-Err-Usage}
+use Rattle.satellite_cli.proofs.Prints.{sheets_well}
+use Rattle.satellite_cli.proofs.Terms.{says_to}
+use Rattle.satellite_cli.proofs.top.satellite.Goals.{in-Ok-Settle, in-Ok-Judge, in-Ok-Drill, in-Err-Usage}
 use Rattle.satellite_cli.proofs.top.satellite.Goals as goal
 
 pub returns-in-Ok-Init-clause-once : goal.returns-in-Ok-Init-clause-once
@@ -49,6 +52,19 @@ returns-in-Ok-Serve-clause-serve_complete g c = λ server is up told sound no_fa
     serves_well g.K.Keeper.faults g.K.Keeper.is_clean g.K.Keeper.is_open g.K.Keeper.tells g.K.Keeper.rows g.K.Keeper.leaves _ (λ b. (start_of b.opening).setup.secret) _ _ _ _ _ _ _ _ _
     c.serve_world.ensures.closed c.serve_world.ensures.term up told sound no_fault no_cut none no_full
 
+pub returns-in-Ok-Sheet-clause-once : goal.returns-in-Ok-Sheet-clause-once
+returns-in-Ok-Sheet-clause-once g c = settles_once
+
+pub returns-in-Ok-Sheet-clause-sheet : goal.returns-in-Ok-Sheet-clause-sheet
+returns-in-Ok-Sheet-clause-sheet g c = λ asked is.
+    let same = same_month _ asked c.args.line.now (rw c.in-Ok-Sheet.field-0-is at c.in-Ok-Sheet.ensures.command) is in
+    rw same (c.sheet_world.ensures.printed, c.sheet_world.ensures.others.0, c.sheet_world.ensures.others.1)
+
+pub returns-in-Ok-Sheet-clause-sheet_complete : goal.returns-in-Ok-Sheet-clause-sheet_complete
+returns-in-Ok-Sheet-clause-sheet_complete g c = λ asked is up told sound no_fault no_cut closed.
+    sheets_well g.K.Keeper.faults g.K.Keeper.is_clean g.K.Keeper.is_open g.K.Keeper.tells g.K.Keeper.rows g.K.Keeper.leaves _ _ _ _ _ _
+    c.sheet_world.ensures.printed up told sound no_fault no_cut closed
+
 pub returns-in-Err-NoMemory-clause-once : goal.returns-in-Err-NoMemory-clause-once
 returns-in-Err-NoMemory-clause-once g c = settles_once
 
@@ -59,11 +75,14 @@ pub returns-clause-judge : goal.returns-clause-judge
 returns-clause-judge g c = search rules
 
 pub returns-clause-usage_line : goal.returns-clause-usage_line
-returns-clause-usage_line g c = elim c.match-read_line.branch [
-  | in-Ok-Settle w ↦ search rules
-  | in-Ok-Judge w ↦ search rules
-  | in-Err-Usage w ↦ search rules
-]
+returns-clause-usage_line g c =
+    let about = g.C.Outside.about in
+    elim c.match-read_line.branch [
+      | in-Ok-Settle w ↦ λ two. absurd (not_usage _ _ ((λ i. (c.ended-2.ensures i).status) ∙ ap code_of w.status-is) w.settle-status.ensures.which two)
+      | in-Ok-Judge w ↦ λ two. absurd (not_usage _ _ ((λ i. (c.ended-2.ensures i).status) ∙ ap code_of w.status-is) w.judge-status.ensures.which two)
+      | in-Ok-Drill w ↦ λ two. says_to _ _ _ _ (ap about ((λ i. (c.ended-2.ensures i).world.console) ∙ (λ i. (w.world-is i).console))) w.unserved-status.ensures.says
+      | in-Err-Usage w ↦ λ two. says_to _ _ _ _ (ap about ((λ i. (c.ended-2.ensures i).world.console) ∙ (λ i. (w.world-is i).console))) w.fault-status.ensures.says
+    ]
 
 pub returns-clause-complete : goal.returns-clause-complete
 returns-clause-complete g c = λ secret cap bytes is told short no_read no_write.

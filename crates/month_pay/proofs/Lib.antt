@@ -1,0 +1,11 @@
+pub mod MonthFacts
+pub mod LastMonth
+pub mod ListFacts
+pub mod RuleForms
+pub mod Unchanged
+pub mod Closing
+pub mod Steps
+pub mod Conserved
+pub mod Amounts
+pub mod LeastLemmas
+pub mod WalkLemmas

@@ -1,0 +1,4 @@
+pub mod Open
+pub mod Closing
+pub mod Opening
+pub mod Counting

@@ -1,0 +1,9 @@
+pub mod RowFacts
+pub mod Balanced
+pub mod Pieces
+pub mod Segments
+pub mod Hours
+pub mod Pots
+pub mod Places
+pub mod Freed
+pub mod Steps

@@ -1,0 +1,192 @@
+// Commands over the devices of a world.
+ghost use Rattle.std.specs.Prelude.{◌≡◌, ◌≤◌, ◌⊎◌, None, IfSome, length, map};
+ghost use Rattle.sat_base.specs.Rows.{Rows};
+ghost use Rattle.sat_book.specs.Book.{BookView, start_of};
+ghost use Rattle.sat_book.specs.Openings.{Opens};
+ghost use Rattle.sat_console.specs.Run.{code_of};
+ghost use Rattle.sat_init.specs.Init.{IsMade};
+ghost use Rattle.sat_rounds.specs.Lanes.{post_view};
+ghost use Rattle.satellite_cli.specs.Making.{Inits};
+ghost use Rattle.satellite_cli.specs.Printing.{IsPrinted};
+ghost use Rattle.satellite_cli.specs.Serving.{IsIdle, IsTerm, NotOpened};
+
+use crate::making::make_store;
+use crate::printing::{Looked, print_sheet};
+use crate::serving::{Run, serve};
+use crate::world::{Ended, World};
+use sat_base::{Clock, Gate, Keeper, Lane, Link, Month, Words};
+use sat_console::Status;
+use sat_init::Setup;
+use std::alloc::Global;
+use std::sync::Wait;
+use std::thread::Threads;
+
+pub(crate) fn ended<
+    C: Link,
+    K: Keeper + Send,
+    L: Lane,
+    N,
+    T: Clock + Send,
+    W: Words + Send,
+    I,
+    G: Gate,
+>(status: Status, world: World<C, K, L, N, T, W, I, G>) -> Ended<C, K, L, N, T, W, I, G>
+    ensures { result ≡ record { status = code_of status; world = world; term = None } }
+{
+    Ended {
+        status: status.code(),
+        world,
+        term: None,
+    }
+}
+
+// `init` over a world.
+pub(crate) fn init_world<
+    C: Link,
+    K: Keeper + Send,
+    L: Lane,
+    N,
+    T: Clock + Send,
+    W: Words + Send,
+    I,
+    G: Gate,
+>(
+    alloc: Global,
+    setup: &Setup,
+    world: World<C, K, L, N, T, W, I, G>,
+) -> Ended<C, K, L, N, T, W, I, G>
+    ensures not_usage { result.status ≡ 2 → ⊥ }
+    ensures inits { Inits setup.now (record {
+      coming = T.coming world.audit.clock;
+      coming_after = T.coming result.world.audit.clock;
+      words = W.left world.audit.words;
+      words_after = W.left result.world.audit.words;
+    }) result.status (C.about world.console) (C.about result.world.console)
+        (K.faults world.keeper) (K.faults result.world.keeper)
+        (W.faults world.audit.words) (W.faults result.world.audit.words)
+        (K.is_open result.world.keeper × K.tells world.keeper) (K.rows world.keeper) (K.rows result.world.keeper) }
+    ensures kits { (result.world.repair ≡ world.repair) × (result.world.tally ≡ world.tally) × (result.world.gate ≡ world.gate) }
+    ensures crash { K.is_clean result.world.keeper → (m : Rows) → K.leaves result.world.keeper m → K.leaves world.keeper m
+        ⊎ (K.is_open world.keeper × IsMade setup.now (K.tells world.keeper) (K.rows world.keeper) m) }
+{
+    let mut world = world;
+    let status = make_store(
+        alloc,
+        setup,
+        &mut world.console,
+        &mut world.keeper,
+        &mut world.audit.clock,
+        &mut world.audit.words,
+    );
+    ended(status, world)
+}
+
+// `serve` over a world.
+pub(crate) fn serve_world<
+    C: Link,
+    K: Keeper + Send,
+    L: Lane,
+    N,
+    T: Clock + Send,
+    W: Words + Send,
+    I,
+    G: Gate,
+    R: Threads + Wait + Sync,
+>(
+    rt: &R,
+    alloc: Global,
+    term: u64,
+    world: World<C, K, L, N, T, W, I, G>,
+) -> Ended<C, K, L, N, T, W, I, G>
+    requires term { (1 ≤ term) × (term ≤ 65536) }
+    requires few { length world.posts.items ≤ 16 }
+    ensures not_usage { result.status ≡ 2 → ⊥ }
+    ensures closed { result.term ≡ None → NotOpened K.faults K.is_clean K.is_open K.tells K.rows K.leaves
+        world.keeper result.world.keeper result.status (C.about world.console) (C.about result.world.console) }
+    ensures term { IfSome result.term (λ t. (book : BookView K) × Opens K.faults K.is_clean K.is_open K.tells K.rows K.leaves
+        world.keeper term book
+        × (IsTerm K.faults K.is_clean K.is_open K.tells K.rows K.leaves (start_of book.opening).setup.secret term book result.world.keeper t
+        result.status (C.about world.console) (C.about result.world.console)
+        (map (post_view L.about T.coming W.left W.faults) world.posts.items)
+        (map (post_view L.about T.coming W.left W.faults) result.world.posts.items)
+        ⊎ IsIdle K.faults K.is_clean K.is_open K.tells K.rows K.leaves (length world.posts.items) book result.world.keeper t
+        result.status (C.about world.console) (C.about result.world.console)
+        (map (post_view L.about T.coming W.left W.faults) world.posts.items)
+        (map (post_view L.about T.coming W.left W.faults) result.world.posts.items))) }
+    ensures audit { result.world.audit ≡ world.audit }
+    ensures kits { (result.world.repair ≡ world.repair) × (result.world.tally ≡ world.tally) × (result.world.gate ≡ world.gate) }
+{
+    let World {
+        mut console,
+        keeper,
+        posts,
+        audit,
+        repair,
+        tally,
+        gate,
+    } = world;
+    let run = serve(rt, alloc, term, &mut console, keeper, posts, &gate);
+    let Run {
+        status,
+        keeper,
+        posts,
+        term,
+    } = run;
+    Ended {
+        status: status.code(),
+        world: World {
+            console,
+            keeper,
+            posts,
+            audit,
+            repair,
+            tally,
+            gate,
+        },
+        term,
+    }
+}
+
+// `sheet` over a world.
+pub(crate) fn sheet_world<
+    C: Link,
+    K: Keeper + Send,
+    L: Lane,
+    N,
+    T: Clock + Send,
+    W: Words + Send,
+    I,
+    G: Gate,
+>(
+    alloc: Global,
+    month: Month,
+    world: World<C, K, L, N, T, W, I, G>,
+) -> Ended<C, K, L, N, T, W, I, G>
+    ensures not_usage { result.status ≡ 2 → ⊥ }
+    ensures printed { IsPrinted K.faults K.is_clean K.is_open K.tells K.rows K.leaves month.0
+        world.keeper result.world.keeper result.status (C.about world.console) (C.about result.world.console) }
+    ensures others { (result.world ≡ record world { console = result.world.console; keeper = result.world.keeper }) × (result.term ≡ None) }
+{
+    let World {
+        mut console,
+        keeper,
+        posts,
+        audit,
+        repair,
+        tally,
+        gate,
+    } = world;
+    let Looked { keeper, status } = print_sheet(alloc, &mut console, keeper, month);
+    ended(
+        status,
+        World {
+            console,
+            keeper,
+            posts,
+            audit,
+            repair,
+            tally,
+            gate,
+        },
+    )
+}
