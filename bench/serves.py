@@ -2,7 +2,7 @@
 """Writes the stored input and output of trial_serve: runs of `init` and `serve` over devices in memory.
 
 It knows the formats of keys, orders, rows and answers, and what follows from each case. Nothing of it was taken from the
-program.
+program. The cases of months, from `MONTHS` to `LAST`, were written by hand, and are kept as they are.
 
     bench/serves.py [FOLDER]      FOLDER is crates/trial_serve beside this file, where it isn't given
 """
@@ -16,6 +16,7 @@ import sys
 SECRET = bytes(32)
 NOW = 1772323200  # 2026-03-01
 DAY = 86400
+MONTHS, LAST = "# A month worked through", "# Lines that aren't taken."
 CAPS = (65536, 65536, 262144, 4194304, 4194304, 1048576)
 
 
@@ -374,16 +375,163 @@ def gate_cases(t):
     t.run(SERVE, 0, "entries 1\\n", ["session 0 entered 0", "link 0 " + settled(10), "gate late"])
 
 
+def segment_row(segment, places):
+    """A live segment of one stripe of 512 bytes, with these pieces: an index and a node each."""
+    pieces = bytes([len(places)]) + b"".join(big(index, 1) + big(node, 4) for index, node in places)
+    return (5, big(segment, 8), big(1, 4) + big(512, 8) + big(1, 8) + pieces)
+
+
+def lost_node(node):
+    kind, key, body = node_row(node)
+    return (kind, key, body[:-1] + b"\x01")
+
+
+# Every byte of both segments is 5, so each piece is: the values of a constant polynomial.
+WHOLE = tuple((node - 1, node) for node in range(1, 6))
+HALF = ((0, 1), (1, 2), (2, 6), (3, 7))
+
+
+def worn_store():
+    """A segment with five good pieces, and one of whose four pieces two are at nodes that were disqualified."""
+    nodes = [*map(node_row, range(1, 6)), lost_node(6), lost_node(7)]
+    segments = [segment_row(1, WHOLE), segment_row(2, HALF)]
+    return [settings_row(), marks_row(segment=3), *nodes, customer_row(1), *segments, tariff_row()]
+
+
+def hold(t, worker, segment, places):
+    for index, node in places:
+        t.note(f"holds {worker} {node} {segment} {index} " + "05" * 256)
+
+
+def worker(t, name, ticks=1, words=0, silent="-", failing="-"):
+    """A worker of rounds with so many ticks and words."""
+    t.note(f"worker {name} {ticks} {silent}")
+    t.note("moments " + ",".join([str(NOW)] * 8))
+    t.note(f"words {words} 0 {failing}")
+
+
+def auditor(t, words=2, **more):
+    hold(t, "audit", 1, WHOLE)
+    worker(t, "audit", words=words, **more)
+
+
+def repairer(t, words=256, **more):
+    hold(t, "repair", 2, HALF[:2])
+    worker(t, "repair", words=words, **more)
+
+
+def round_cases(t):
+    t.say("# An audit asks again first, where it has nobody to ask; then its plan and its end.")
+    t.store(worn_store())
+    auditor(t)
+    t.run(SERVE, 0, "entries 3\\n", ["round audit through 0 1 2"])
+    t.say("# A repair, and behind it no piece to move; then nothing to repair.")
+    t.store(worn_store())
+    repairer(t)
+    t.run(SERVE, 0, "entries 3\\n", ["round repair through 0 1 2"])
+    repairer(t)
+    t.run(SERVE, 0, "entries 2\\n", ["round repair through 0 1"])
+    t.say("# A tally at each tick.")
+    t.store(worn_store())
+    worker(t, "tally", ticks=3)
+    t.run(SERVE, 0, "entries 3\\n", [f"round tally through {place}" for place in range(3)])
+    t.say("")
+    t.say("# Random words are wanting: for an audit, a repair, and the move of a piece.")
+    for begin, words, lines in (
+        (auditor, 1, ["round audit words-fault 0"]),
+        (repairer, 127, ["round repair words-fault"]),
+        (repairer, 128, ["round repair words-fault 0 1"]),
+    ):
+        t.store(worn_store())
+        begin(t, words=words, ticks=2)
+        entries = len(lines[0].split()) - 3
+        t.run(SERVE, 10, f"entries {entries}\\nerror: words\\n", lines)
+    t.say("# A lane that failed comes first, and so does a full term.")
+    t.store(worn_store())
+    t.lane([], failing="1")
+    auditor(t, words=1)
+    t.run(SERVE, 7, "entries 1\\nerror: lane\\n", ["round audit words-fault 0"])
+    t.say("")
+    t.say("# The term is full before and behind a plan, and between two parts.")
+    for begin, term, line in (
+        (auditor, 1, "round audit term-full 1 0"),
+        (auditor, 2, "round audit term-full 2 0 1"),
+        (repairer, 1, "round repair term-full 1 0"),
+        (repairer, 2, "round repair term-full 2 0 1"),
+    ):
+        t.store(worn_store())
+        begin(t, ticks=2)
+        t.run(f"{SERVE} --term {term}", 6, f"entries {term}\\nerror: term-full\\n", [line])
+    t.store(worn_store())
+    worker(t, "tally", ticks=3)
+    t.run(f"{SERVE} --term 1", 6, "entries 1\\nerror: term-full\\n", ["round tally through 0", "round tally term-full 1"])
+    t.say("")
+    t.say("# The keeper fails the commit of a plan, so that nobody is asked; and that of its end.")
+    t.store(worn_store())
+    t.note("fail keeper 2")
+    auditor(t)
+    t.run(SERVE, 0, "entries 2\\n", ["round audit through 0 1"])
+    t.store(worn_store())
+    t.note("fail keeper 3")
+    auditor(t)
+    t.run(SERVE, 0, "entries 3\\n", ["round audit through 0 1 2"])
+    t.store(worn_store())
+    t.note("fail keeper 2")
+    repairer(t)
+    t.run(SERVE, 0, "entries 2\\n", ["round repair through 0 1"])
+    t.store(worn_store())
+    t.note("fail keeper 2")
+    worker(t, "tally")
+    t.run(SERVE, 0, "entries 1\\n", ["round tally through 0"])
+
+
+def race_cases(t):
+    t.say("# A lane and a worker: each is held until the other came by. Workers that run one after another are late.")
+    heard = ["session 0 entered", "link 0 " + settled(10)]
+    for begin, point, line in ((auditor, "audit", "round audit through"), (repairer, "repair", "round repair through")):
+        for held, other in ((point, "sent:0"), ("read:0", point)):
+            t.store(worn_store())
+            t.lane([settle(1, 5, 10)])
+            begin(t)
+            t.note(f"hold {held} {other}")
+            t.input.append("race " + SERVE)
+            t.output.append("status 0 entries 4\\n")
+            t.output += [heard[0], line + " entry entry entry", heard[1]]
+    t.say("# An audit and a repair, and everybody at once.")
+    for held, other in (("audit", "repair"), ("repair", "audit")):
+        t.store(worn_store())
+        t.lane([settle(1, 5, 10)])
+        auditor(t)
+        repairer(t)
+        worker(t, "tally", ticks=2)
+        t.note(f"hold {held} {other}")
+        t.input.append("race " + SERVE)
+        t.output.append("status 0 entries 9\\n")
+        t.output += [
+            heard[0], "round audit through entry entry entry", "round repair through entry entry entry",
+            "2 times round tally through entry", heard[1],
+        ]
+
+
+def kept(path):
+    """The lines of the months in a stored text."""
+    lines = path.read_text().splitlines()
+    begin = next(i for i, line in enumerate(lines) if line.startswith(MONTHS))
+    return lines[begin : lines.index(LAST)]
+
+
 def main():
     folder = pathlib.Path(sys.argv[1]) if len(sys.argv) > 1 else pathlib.Path(__file__).parent.parent / "crates" / "trial_serve"
     t = Case()
     t.say("# Written by bench/serves.py.")
-    for cases in (init_cases, open_cases, session_cases, end_cases, gate_cases):
+    for cases in (init_cases, open_cases, session_cases, end_cases, gate_cases, round_cases, race_cases):
         t.say("")
         cases(t)
     t.say("")
-    t.say("# Lines that aren't taken.")
-    for line in ("lanes", "link - text", "row 1", "hold read:0", "fail disk 1", "words 1", "store now"):
+    t.input += kept(folder / "stdin")
+    t.output += kept(folder / "stdout")
+    t.say(LAST)
+    for line in ("lanes", "link - text", "row 1", "hold read:0", "fail disk 1", "words 1", "store now", "worker lane 1 -", "holds audit 1 1 0"):
         t.bad(line)
     (folder / "stdin").write_text("\n".join(t.input) + "\n")
     (folder / "stdout").write_text("\n".join(t.output) + "\n")

@@ -1,13 +1,14 @@
 #!/usr/bin/env python3
 """Makes a store whose first month is past, so that a month can be closed at once.
 
-    past.py FILE [--month YYYY-MM] [--secret HEX64] [--version 1]
+    past.py FILE [--month YYYY-MM] [--secret HEX64] [--version 1] [--loopback]
 
 `satellite init` begins with the month of the clock, which can't be closed before it is over. This script writes the rows
 of docs/FORMATS.md by itself: a scheme of 2, 3, 4, 6, six nodes that joined in the month before, a customer, and what the
 nodes earned in the month, which is the first one and the next to close. The usual rates hold from it on. Node 1 earns for
 300000000000 fetched bytes and 10^12 bytes kept in each of 720 hours. With `--version 1` the settings have the old form,
-which the satellite replaces as it opens the store. It prints the keys of the operator, the customer and the nodes.
+which the satellite replaces as it opens the store. With `--loopback` the nodes are at 127.0.N.1, where examples/nodes.py
+plays them. It prints the keys of the operator, the customer and the nodes.
 """
 import argparse
 import calendar
@@ -39,9 +40,9 @@ def settings(secret, month, version):
     return (b"" if version == 1 else be(1, 2)) + front + rates + be(4, *CAPS) + be(4, month)
 
 
-def node(number, joined):
-    # 10.0.NUMBER.1, each in a subnet of its own
-    return be(4, 0x0A000001 + 256 * number) + be(2, 7001) + be(8, 10**12, joined) + be(4, 10000, 0, 100) + be(1, 0)
+def node(number, joined, net):
+    # NET.0.NUMBER.1, each in a subnet of its own
+    return be(4, (net << 24) + 1 + 256 * number) + be(2, 7001) + be(8, 10**12, joined) + be(4, 10000, 0, 100) + be(1, 0)
 
 
 def earned(month):
@@ -70,13 +71,13 @@ def tallies(month):
             yield TALLY, be(8, hour) + be(4, number), be(8, 10**9 * number)
 
 
-def rows(secret, month, version):
+def rows(secret, month, version, net):
     last = first_moment(month + 1) - 1
     joined = first_moment(month) - 86400
     yield SETTINGS, b"", settings(secret, month, version)
     yield MARKS, b"", be(8, last, 1, 1000, 1) + be(4, month) + be(8, last // 3600 + 1)
     for number in range(1, NODES + 1):
-        yield NODE, be(4, number), node(number, joined)
+        yield NODE, be(4, number), node(number, joined, net)
     yield CUSTOMER, be(4, 1), be(8, joined)
     yield from settled(month)
     yield from tallies(month)
@@ -110,12 +111,13 @@ def main():
     words.add_argument("--month", type=month_of, default=month_of("2026-03"))
     words.add_argument("--secret", type=secret_of, default=bytes(32))
     words.add_argument("--version", type=int, choices=(1, 2), default=2)
+    words.add_argument("--loopback", dest="net", action="store_const", const=127, default=10)
     said = words.parse_args()
     if os.path.exists(said.file):
         sys.exit(f"past: {said.file} is there already")
     store = sqlite3.connect(said.file)
     store.execute(TABLE)
-    store.executemany("INSERT INTO record VALUES(?, ?, ?)", rows(said.secret, said.month, said.version))
+    store.executemany("INSERT INTO record VALUES(?, ?, ?)", rows(said.secret, said.month, said.version, said.net))
     store.commit()
     store.close()
     print("operator", key(said.secret, b"\4"))

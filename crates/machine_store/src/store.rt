@@ -13,7 +13,6 @@ use segment_index::SegmentIndex;
 use settlement::Settled;
 
 // The tables as they are kept.
-#[derive(Drop)]
 pub struct Store {
     pub settings: Settings,
     // The keys of the settings' secret.
@@ -31,6 +30,28 @@ pub struct Store {
     pub left: SlottedRows<Left>,
     pub tariffs: SlottedRows<Tariff>,
     pub stopped: bool,
+}
+
+// By hand, so that all tables are let go here, and not anew wherever a store is.
+impl Drop for Store {
+    fn drop(self) {
+        let Store {
+            settings: _,
+            keys: _,
+            marks: _,
+            nodes: _,
+            customers: _,
+            segments: _,
+            settled: _,
+            pay: _,
+            plans: _,
+            containments: _,
+            kept: _,
+            left: _,
+            tariffs: _,
+            stopped: _,
+        } = self;
+    }
 }
 
 impl Store {

@@ -144,8 +144,11 @@ fn repair<N: Nodes>(
     }
 }
 
-// Asks the nodes of the plan that a reply holds.
-pub(crate) fn ask<N: Nodes>(
+/// Asks the nodes of the plan that a reply holds, and tells what was found. An audit's are asked for their shares, a
+/// recheck's once more, and of a repair or a move the sources are asked and fresh pieces put at the targets.
+///
+/// The decoder's room was made for the scheme. The one error is want of memory; then some of the asks may have been made.
+pub fn ask<N: Nodes>(
     alloc: Global,
     store: &Store,
     scratch: &mut Scratch,

@@ -12,6 +12,9 @@
 //!
 //! [`AuditKit`], [`RepairKit`] and [`TallyKit`] are the kits of workers that make a round at each tick.
 //!
+//! The steps of a part are there by themselves for callers that have a book and no desk: [`plan_call`], [`ask`] and
+//! [`end_call`].
+//!
 //! Not promised: that a tick comes, a turn comes or memory is found, or where the gate is passed.
 #![tactic(auto)]
 
@@ -26,9 +29,10 @@ mod rounds;
 mod tally;
 mod upkeep;
 
+pub use asking::ask;
 pub use kit::{Kit, NodesView, Store};
 pub use kits::{AuditKit, RepairKit};
 pub use laws::{a_recheck_says_what_is_held, a_repair_of_a_round_keeps_the_bytes};
 pub use rounds::{audit_round, repair_round};
 pub use tally::{TallyKit, tally_round};
-pub use upkeep::{Found, Upkeep};
+pub use upkeep::{Found, Upkeep, end_call, is_plan_of, plan_call, words_of};

@@ -30,8 +30,8 @@ pub enum Found {
     Exit(RepairOutcome),
 }
 
-// How many random words a plan takes.
-pub(crate) fn words_of(kind: Upkeep) -> usize
+/// How many random words a plan takes.
+pub fn words_of(kind: Upkeep) -> usize
     ensures { result ≡ rules.words_of kind }
 {
     match kind {
@@ -41,8 +41,8 @@ pub(crate) fn words_of(kind: Upkeep) -> usize
     }
 }
 
-// The call that plans it.
-pub(crate) fn plan_call(kind: Upkeep, now: Moment, words: Words64) -> Call
+/// The call that plans it.
+pub fn plan_call(kind: Upkeep, now: Moment, words: Words64) -> Call
     ensures { result ≡ rules.plan_call kind now words }
 {
     match kind {
@@ -53,8 +53,8 @@ pub(crate) fn plan_call(kind: Upkeep, now: Moment, words: Words64) -> Call
     }
 }
 
-// Whether a reply holds its plan.
-pub(crate) fn is_plan_of(kind: Upkeep, reply: &Reply) -> bool
+/// Whether a reply holds its plan.
+pub fn is_plan_of(kind: Upkeep, reply: &Reply) -> bool
     ensures { result ≡ rules.is_plan_of kind reply.now }
 {
     match kind {
@@ -65,8 +65,8 @@ pub(crate) fn is_plan_of(kind: Upkeep, reply: &Reply) -> bool
     }
 }
 
-// The call that ends it.
-pub(crate) fn end_call(found: Found, now: Moment) -> Call
+/// The call that ends it.
+pub fn end_call(found: Found, now: Moment) -> Call
     ensures { result ≡ rules.end_call found now }
 {
     match found {

@@ -32,7 +32,6 @@ pub struct Answered {
 ///
 /// Contracts see what it was opened with, its keeper as it was handed in and as it is now, its tables, its history, and
 /// how many entries it has room for.
-#[derive(Drop)]
 pub struct Book<K: Keeper> {
     pub(crate) alloc: Global,
     pub(crate) keeper: K,
@@ -42,6 +41,21 @@ pub struct Book<K: Keeper> {
     pub(crate) opening: Opening,
     pub(crate) core: Core,
     pub(crate) history: Vec<Entry>,
+}
+
+// By hand, so that all that a book holds is let go here, and not anew wherever a book is.
+impl<K: Keeper + Drop> Drop for Book<K> {
+    fn drop(self) {
+        let Book {
+            alloc: _,
+            keeper: _,
+            first: _,
+            opened: _,
+            opening: _,
+            core: _,
+            history: _,
+        } = self;
+    }
 }
 
 impl<K: Keeper> Model for Book<K> {

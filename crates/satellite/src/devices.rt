@@ -2,7 +2,7 @@
 ghost use Rattle.std.specs.Prelude.{◌≡◌, ◌≤◌, length};
 
 use crate::StartErr;
-use sat_base::{Clock as Times, Gate, Keeper, Lane, Line, Link, OpenGate, Words};
+use sat_base::{Clock as Times, Gate, Keeper, Lane, Line, Link, Nodes, OpenGate, Ticks, Words};
 use sat_devices::{MachineWords, SleepTicks, SystemClock, TcpLane};
 use satellite_cli::{Ended, Kit, Post, World, satellite};
 use std::alloc::Global;
@@ -16,12 +16,26 @@ type Random = MachineWords<HostRuntime>;
 /// What the workers of all lanes have.
 pub type Lanes = Vec<Post<TcpLane<HostRuntime>, Clock, Random>>;
 
-// No node is asked yet.
-type RoundKit = Kit<(), Clock, Random, SleepTicks<HostRuntime>>;
+/// The storage nodes of each worker of rounds.
+#[derive(Drop)]
+pub struct Network<N> {
+    pub audit: N,
+    pub repair: N,
+    pub tally: N,
+}
 
-fn kit(rt: HostRuntime, tick: u32) -> RoundKit {
+/// What serves: the lanes, the seconds between two ticks, and the storage nodes.
+#[derive(Drop)]
+pub struct Crew<N> {
+    pub posts: Lanes,
+    pub tick: u32,
+    pub network: Network<N>,
+}
+
+// What a worker of rounds has: it asks these nodes, and makes a round every so many seconds.
+fn kit<N>(rt: HostRuntime, nodes: N, tick: u32) -> Kit<N, Clock, Random, SleepTicks<HostRuntime>> {
     Kit {
-        nodes: (),
+        nodes,
         clock: SystemClock::new(rt),
         words: MachineWords::new(rt),
         ticks: SleepTicks::new(rt, tick),
@@ -49,11 +63,11 @@ pub fn bound(rt: HostRuntime, alloc: Global, port: u16, lanes: u16) -> Result<La
 }
 
 /// All devices of a run, over a console and a keeper.
-pub type Devices<C, K> = World<
+pub type Devices<C, K, N> = World<
     C,
     K,
     TcpLane<HostRuntime>,
-    (),
+    N,
     Clock,
     Random,
     SleepTicks<HostRuntime>,
@@ -61,22 +75,31 @@ pub type Devices<C, K> = World<
 >;
 
 /// All devices over a console and a keeper.
-pub fn devices<C: Link, K>(
+pub fn devices<C: Link, K, N>(
     rt: HostRuntime,
     console: C,
     keeper: K,
-    posts: Lanes,
-    tick: u32,
-) -> Devices<C, K>
-    ensures { result.posts ≡ posts }
+    crew: Crew<N>,
+) -> Devices<C, K, N>
+    ensures { result.posts ≡ crew.posts }
 {
+    let Crew {
+        posts,
+        tick,
+        network,
+    } = crew;
+    let Network {
+        audit,
+        repair,
+        tally,
+    } = network;
     World {
         console,
         keeper,
         posts,
-        audit: kit(rt, tick),
-        repair: kit(rt, tick),
-        tally: kit(rt, tick),
+        audit: kit(rt, audit, tick),
+        repair: kit(rt, repair, tick),
+        tally: kit(rt, tally, tick),
         gate: OpenGate::of(),
     }
 }
@@ -87,10 +110,10 @@ pub fn run<
     C: Link,
     K: Keeper + Send,
     L: Lane,
-    N,
+    N: Nodes + Send,
     T: Times + Send,
     W: Words + Send,
-    I,
+    I: Ticks + Send,
     G: Gate,
     R: Threads + Wait + Sync,
 >(

@@ -1,16 +1,17 @@
 //! The satellite's program: its words, its devices, and the top call over both.
 //!
 //! `main` hands the words and the real devices to `satellite_cli::satellite`, and its status to the system: the console
-//! for each command, and for `init` and `serve` the store's file as well, for `serve` a port for each lane. Words that are
-//! no text are read as none, which is no command either. What the commands do is `satellite_cli`'s contract. Of `main`
-//! itself nothing is proved but that it is safe; the gate runs it on examples.
+//! for each command, and for `init`, `serve` and `sheet` the store's file as well, for `serve` a port for each lane and the
+//! storage nodes of the network. Words that are no text are read as none, which is no command either. What the commands do
+//! is `satellite_cli`'s contract. Of `main` itself nothing is proved but that it is safe; the gate runs it on examples.
 #![tactic(auto)]
 
 mod devices;
 mod store;
 
-use devices::{bound, devices};
-use sat_base::{KeeperMem, Line, NoMemory};
+use devices::{Crew, Network, bound, devices};
+use gather::TokioNodes;
+use sat_base::{KeeperMem, Line, NoMemory, Nodes};
 use sat_devices::Console;
 use satellite_cli::{Command, LineErr, Status, read_line};
 use std::alloc::Global;
@@ -48,23 +49,29 @@ fn words<R: Env + AllocGlobal>(rt: &R, alloc: Global) -> Result<Line, NoMemory> 
 }
 
 // A run of a command without a store.
-fn without_store<R: Threads + Wait + Sync>(
+fn without_store<N: Nodes + Send, R: Threads + Wait + Sync>(
     rt: HostRuntime,
     handles: &R,
     alloc: Global,
     line: &Line,
+    network: Network<N>,
 ) -> u8 {
     let keeper = KeeperMem::of(Vec::new(alloc), Vec::new(alloc));
     let console = Console::new(rt.reader(), io::writer(&rt));
-    let posts = Vec::new(alloc);
-    let world = devices(rt, console, keeper, posts, 0);
+    let crew = Crew {
+        posts: Vec::new(alloc),
+        tick: 0,
+        network,
+    };
+    let world = devices(rt, console, keeper, crew);
     devices::run(handles, alloc, line, world).status
 }
 
-fn run<R: Threads + Wait + Sync>(
+fn run<N: Nodes + Send, R: Threads + Wait + Sync>(
     rt: HostRuntime,
     handles: &R,
     alloc: Global,
+    network: Network<N>,
 ) -> Result<u8, StartErr> {
     let line = match words(&rt, alloc) {
         Ok(line) => line,
@@ -74,8 +81,11 @@ fn run<R: Threads + Wait + Sync>(
         Ok(Command::Init { store, .. } | Command::Sheet { store, .. }) => {
             let open = OpenStore {
                 name: store.as_slice(),
-                posts: Vec::new(alloc),
-                tick: 0,
+                crew: Crew {
+                    posts: Vec::new(alloc),
+                    tick: 0,
+                    network,
+                },
             };
             over_file(rt, handles, alloc, &line, open)
         }
@@ -91,18 +101,26 @@ fn run<R: Threads + Wait + Sync>(
             let posts = bound(rt, alloc, port, lanes)?;
             let open = OpenStore {
                 name: store.as_slice(),
-                posts,
-                tick,
+                crew: Crew {
+                    posts,
+                    tick,
+                    network,
+                },
             };
             over_file(rt, handles, alloc, &line, open)
         }
-        Ok(_) | Err(LineErr::Usage) => Ok(without_store(rt, handles, alloc, &line)),
+        Ok(_) | Err(LineErr::Usage) => Ok(without_store(rt, handles, alloc, &line, network)),
         Err(LineErr::NoMemory) => Err(StartErr::NoMemory),
     }
 }
 
 fn main(rt: HostRuntime) -> ExitCode {
-    let status = match run(rt, &rt, rt.alloc()) {
+    let network = Network {
+        audit: TokioNodes::new(rt),
+        repair: TokioNodes::new(rt),
+        tally: TokioNodes::new(rt),
+    };
+    let status = match run(rt, &rt, rt.alloc(), network) {
         Ok(status) => return ExitCode::from(status),
         Err(StartErr::Start) => {
             // The status stands whether its line can be printed or not.

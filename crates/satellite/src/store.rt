@@ -1,8 +1,8 @@
 // Runs over the file of a store.
 use crate::StartErr;
-use crate::devices::{Lanes, devices, run};
+use crate::devices::{Crew, devices, run};
 use keeper_sqlite::{KeeperSqlite, Refused};
-use sat_base::Line;
+use sat_base::{Line, Nodes};
 use sat_devices::Console;
 use sqlite::{Alter, Connection, Error, ErrorCode};
 use std::alloc::Global;
@@ -13,24 +13,23 @@ use std::{io, str};
 // The most lanes of a run.
 const LANES: usize = 16;
 
-/// The name of a store's file, the lanes that serve it, and the seconds between two ticks.
-pub struct OpenStore<'a> {
+/// The name of a store's file, and what serves it.
+#[derive(Drop)]
+pub struct OpenStore<'a, N> {
     pub name: &'a [u8],
-    pub posts: Lanes,
-    pub tick: u32,
+    pub crew: Crew<N>,
 }
 
 // A run over a store, whatever it is.
-fn over_store<S: Alter + Drop + Send, R: Threads + Wait + Sync>(
+fn over_store<S: Alter + Drop + Send, N: Nodes + Send, R: Threads + Wait + Sync>(
     rt: HostRuntime,
     handles: &R,
     alloc: Global,
     line: &Line,
     conn: Connection<S>,
-    posts: Lanes,
-    tick: u32,
+    crew: Crew<N>,
 ) -> Result<(u8, Connection<S>), StartErr> {
-    if posts.len() > LANES || !conn.is_autocommit() {
+    if crew.posts.len() > LANES || !conn.is_autocommit() {
         return Err(StartErr::Start);
     }
     let keeper = match KeeperSqlite::of(conn) {
@@ -39,20 +38,20 @@ fn over_store<S: Alter + Drop + Send, R: Threads + Wait + Sync>(
         Err(Refused::NoMemory) => return Err(StartErr::NoMemory),
     };
     let console = Console::new(rt.reader(), io::writer(&rt));
-    let world = devices(rt, console, keeper, posts, tick);
+    let world = devices(rt, console, keeper, crew);
     let ended = run(handles, alloc, line, world);
     Ok((ended.status, ended.world.keeper.into_connection()))
 }
 
 /// A run over the file of this name, which is closed at the end, so that one file is left.
-pub fn over_file<R: Threads + Wait + Sync>(
+pub fn over_file<N: Nodes + Send, R: Threads + Wait + Sync>(
     rt: HostRuntime,
     handles: &R,
     alloc: Global,
     line: &Line,
-    open: OpenStore<'_>,
+    open: OpenStore<'_, N>,
 ) -> Result<u8, StartErr> {
-    let OpenStore { name, posts, tick } = open;
+    let OpenStore { name, crew } = open;
     let Ok(path) = str::from_utf8(name) else {
         return Err(StartErr::Start);
     };
@@ -61,7 +60,7 @@ pub fn over_file<R: Threads + Wait + Sync>(
         Err(Error::SqliteFailure(ErrorCode::OutOfMemory)) => return Err(StartErr::NoMemory),
         Err(_) => return Err(StartErr::Start),
     };
-    let (status, conn) = over_store(rt, handles, alloc, line, conn, posts, tick)?;
+    let (status, conn) = over_store(rt, handles, alloc, line, conn, crew)?;
     // What was committed stands whether it can be closed or not.
     let _ = conn.close();
     Ok(status)

@@ -1,5 +1,10 @@
 pub mod Asking
+pub mod Drills
 pub mod Ends
+pub mod Full
 pub mod Inits
+pub mod Named
 pub mod Prints
+pub mod Staffs
 pub mod Terms
+pub mod Wordless

@@ -1,7 +1,6 @@
 -- How `serve` ends: the line of a store that isn't opened, and the status and the lines of a term.
-use Rattle.std.specs.Prelude.{◌≡◌, ◌⊎◌, ℕ, List, [], length, Option, Some, None, Bool, true, false, codes, ◌==◌, if◌then◌else◌}
-use Rattle.command_line.specs.Command.{Asked}
-use Rattle.command_line.specs.Command.Asked.{drill}
+use Rattle.std.specs.Prelude.{◌≡◌, ◌⊎◌, ◌||◌, ℕ, List, [], length, Option, Some, None, Bool, true, false, codes, ◌==◌, if◌then◌else◌}
+use Rattle.std.specs.List.{list_any}
 use Rattle.sat_base.specs.Outside.{About, Rose, with_end}
 use Rattle.sat_book.specs.declared.opening.OpenErr.{OpenErr}
 use Rattle.sat_book.specs.declared.opening.OpenErr.TheVariants as errs
@@ -9,17 +8,17 @@ use Rattle.sat_console.specs.Run.{Says, fault_line}
 use Rattle.sat_console.specs.Words.{numbered_text, store_text}
 use Rattle.sat_rounds.specs.declared.lanes.LaneEnd.{LaneEnd}
 use Rattle.sat_rounds.specs.declared.lanes.LaneEnd.TheVariants as lanes
+use Rattle.sat_rounds.specs.declared.rounds.Round.{Round}
+use Rattle.sat_rounds.specs.declared.rounds.RoundEnd.{RoundEnd}
+use Rattle.sat_rounds.specs.declared.rounds.RoundEnd.TheVariants as rounds
+use Rattle.sat_rounds.specs.declared.rounds.RoundsEnd.{RoundsEnd}
+use Rattle.sat_rounds.specs.declared.rounds.RoundsEnd.TheVariants as workers
 use Rattle.sat_rounds.specs.declared.told.Session.{Session}
+use Rattle.sat_term.specs.Term.{is_failed, met_full}
+use Rattle.sat_term.specs.declared.crew.Ends.{Ends}
+use Rattle.sat_term.specs.declared.crew.Term.{Term}
 use Rattle.satellite_cli.specs.declared.ending.LastLine.{LastLine}
 use Rattle.satellite_cli.specs.declared.ending.LastLine.TheVariants as last
-
--- ---- what is served
-
--- the words ask for what the satellite does so far
-abbrev pub is_served : Option Asked → Bool
-is_served None = false
-is_served (Some (drill start calls)) = false
-is_served (Some _) = true
 
 -- ---- no book
 
@@ -56,17 +55,50 @@ abbrev pub is_wanting : LaneEnd → Bool
 is_wanting lanes.NoMemory = true
 is_wanting _ = false
 
+abbrev pub is_short : RoundsEnd → Bool
+is_short workers.NoMemory = true
+is_short _ = false
+
+-- random words were wanting for a round
+abbrev pub is_wordless : RoundEnd → Bool
+is_wordless rounds.WordsFault = true
+is_wordless _ = false
+
+-- what a status goes by: whether a worker met the full term or a lane had all its sessions, a lane failed, random words were
+-- wanting for a round of audit or repair, a worker had no memory
+pub record Flags : Type 0 where
+  pub full : Bool
+  pub failed : Bool
+  pub wordless : Bool
+  pub wanting : Bool
+
+abbrev pub has_all_sessions : Term → Bool
+has_all_sessions t = list_any (λ lane. has_many lane.items) t.lanes.items
+
+abbrev pub lacks_words : Term → Bool
+lacks_words t = list_any (λ x. is_wordless x.end) t.audits.items || list_any (λ x. is_wordless x.end) t.repairs.items
+
+abbrev pub lacks_memory : Ends → Bool
+lacks_memory ends = list_any is_wanting ends.lanes.items || (is_short ends.audit || (is_short ends.repair || is_short ends.tally))
+
+abbrev pub flags_of : Term → Ends → Flags
+flags_of t ends = record {
+  full = met_full t || has_all_sessions t;
+  failed = list_any is_failed ends.lanes.items;
+  wordless = lacks_words t;
+  wanting = lacks_memory ends;
+}
+
 -- the status by the last line alone
 abbrev pub line_status : LastLine → ℕ
 line_status last.Whole = 0
 line_status last.Cut = 5
 line_status last.NoMemory = 9
 
--- the first of 6, 7, 9, 5 and 0 that holds: a worker met the full term or a lane had all its sessions, a lane failed, a worker
--- had no memory, the last line wasn't written or made
-abbrev pub term_status : (full failed wanting : Bool) → LastLine → ℕ
-term_status full failed wanting line =
-    if full then 6 else (if failed then 7 else (if wanting then 9 else line_status line))
+-- the first of 6, 7, 10, 9, 5 and 0 that holds. 9 and 5 hold also where the last line wasn't made or wasn't written
+abbrev pub term_status : Flags → LastLine → ℕ
+term_status flags line =
+    if flags.full then 6 else (if flags.failed then 7 else (if flags.wordless then 10 else (if flags.wanting then 9 else line_status line)))
 
 -- the line of a term with so many entries
 abbrev pub entries_text : ℕ → List ℕ
@@ -83,9 +115,9 @@ abbrev pub EndsWith : ℕ → About → About → Type 0
 EndsWith status old new = (fault_line status ≡ [] → new ≡ old) × ((fault_line status ≡ [] → ⊥) → Says (fault_line status) old new)
 
 -- how many entries there were is said, and then the line of the status
-pub record Finishes (full failed wanting : Bool) (entries status : ℕ) (old new : About) : Type 0 where
+pub record Finishes (flags : Flags) (entries status : ℕ) (old new : About) : Type 0 where
   pub line : LastLine
-  pub status_is : status ≡ term_status full failed wanting line
+  pub status_is : status ≡ term_status flags line
   pub mid : About
   pub said : SaysEntries entries line old mid
   pub fault : EndsWith status mid new

@@ -1,8 +1,11 @@
 -- What `serve` leaves: where its book isn't opened, and where it is.
-use Rattle.std.specs.Prelude.{◌≡◌, ◌⊎◌, ℕ, ◌+◌, ◌-◌, ◌^◌, ◌<◌, ◌≤◌, List, [], ◌∷◌, length, map, ◌||◌, true, Some, None, slice_get}
-use Rattle.std.specs.List.{list_any}
+use Rattle.std.specs.Prelude.{◌≡◌, ◌⊎◌, ℕ, ◌+◌, ◌-◌, ◌^◌, ◌<◌, ◌≤◌, List, [], ◌∷◌, length, map, ◌||◌, true, Option, Some, slice_get}
+use Rattle.sat_base.specs.Lane.{LaneView}
 use Rattle.sat_base.specs.Outside.{About, Rose}
 use Rattle.sat_base.specs.Rows.{Rows, AreThe}
+use Rattle.sat_base.specs.Ticks.{TicksView}
+use Rattle.sat_base.specs.declared.nodes.Ask.{Ask}
+use Rattle.sat_base.specs.declared.nodes.Held.{Held}
 use Rattle.sat_base.specs.declared.rows.Row.{Row}
 use Rattle.machine_history.specs.Orders.{SettleOnce}
 use Rattle.sat_book.specs.Book.{BookView, Keeps, Spell, start_of}
@@ -11,36 +14,58 @@ use Rattle.sat_book.specs.Paid.{ClosedMonthsStay, PaysByTariff}
 use Rattle.sat_book.specs.Opened.{IsFirstBad}
 use Rattle.sat_book.specs.Openings.{BreaksRule, Refuses}
 use Rattle.sat_book.specs.declared.opening.OpenErr.{OpenErr}
+use Rattle.sat_book.specs.declared.opening.Opening.{Opening}
 use Rattle.sat_console.specs.Run.{Says, fault_line}
-use Rattle.sat_rounds.specs.Lanes.{PostView}
-use Rattle.sat_rounds.specs.Rounds.{KitView}
-use Rattle.sat_term.specs.Crew.{KitsView, LaneRow, Telling}
-use Rattle.sat_term.specs.Term.{TermClauses, is_failed, met_full}
+use Rattle.sat_rounds.specs.Lanes.{PostView, post_view}
+use Rattle.sat_rounds.specs.declared.lanes.Post.{Post}
+use Rattle.sat_term.specs.Crew.{KitsView, LaneRow}
+use Rattle.sat_term.specs.Term.{TermClauses, met_full}
 use Rattle.sat_term.specs.declared.crew.Ends.{Ends}
 use Rattle.sat_term.specs.declared.crew.Term.{Term}
-use Rattle.satellite_cli.specs.Ending.{Finishes, SaysWhy, has_many, is_wanting}
+use Rattle.bw_decode.specs.Room.{Room}
+use Rattle.node_rounds.specs.Askable.{IsStoreOf}
+use Rattle.node_rounds.specs.Asked.{nodes_view}
+use Rattle.node_rounds.specs.Kits.{Tells}
+use Rattle.node_rounds.specs.Parts.{kit_view}
+use Rattle.node_rounds.specs.Tally.{TallyTells, tally_view}
+use Rattle.node_rounds.specs.declared.kit.Kit.{Kit}
+use Rattle.node_rounds.specs.declared.kit.NodesView.{NodesView}
+use Rattle.node_rounds.specs.declared.kit.Store.{Store}
+use Rattle.node_rounds.specs.declared.upkeep.Upkeep.TheVariants as kinds
+use Rattle.satellite_cli.specs.Ending.{Finishes, SaysWhy, flags_of, has_all_sessions}
+use Rattle.satellite_cli.specs.Headline.{SpeaksOfNamed}
 
 -- no row is bad, and the tables that they spell break no rule
 pub record AreSound (rows : Rows) : Type 0 where
   pub no_bad_row : (loaded : List Row) (kind : ℕ) (id : List ℕ) → AreThe rows loaded → IsFirstBad loaded kind id → ⊥
   pub no_broken_rule : (loaded : List Row) (rule kind : ℕ) (id : List ℕ) → AreThe rows loaded → BreaksRule loaded rule kind id → ⊥
 
--- ---- the workers of rounds, which make none
+-- ---- the workers
 
-abbrev pub no_kit : KitView (Unit {0})
-no_kit = record {
-  nodes = tt;
-  coming = None;
-  words = None;
-  words_faults = 0;
-  ticks = record { given = 0; over = true };
-}
+-- what a worker that asks nodes goes by is the store's, and its decoder has room for each answer
+abbrev pub Fits : Opening → Store → Room → Type 0
+Fits opening store room = IsStoreOf opening store.keys store.scheme × (store.scheme.n ≤ room.points)
 
-abbrev pub no_kits : KitsView (Unit {0}) (Unit {0}) (Unit {0})
-no_kits = record { audit = no_kit; repair = no_kit; tally = no_kit }
+-- what is told of the workers of rounds, and of all
+abbrev pub Kits : Type 0
+Kits = KitsView NodesView NodesView (Unit {0})
 
-abbrev pub NoRound : Telling (Unit {0})
-NoRound before round new history after = ⊥
+pub record StaffView : Type 0 where
+  pub posts : List PostView
+  pub kits : Kits
+
+module _ {L T W N I : Type 0} (lane : L → LaneView) (coming : T → Option (List ℕ)) (left : W → Option (List ℕ)) (words_faults : W → ℕ)
+    (held : N → Option (List Held)) (asks : N → Option (List Ask)) (nodes_faults : N → ℕ) (ticks : I → TicksView) where
+  -- what is told of posts and three kits. The worker of tallies has no nodes and no words
+  abbrev pub staff_view : List (Post L T W) → Kit N T W I → Kit N T W I → Kit N T W I → StaffView
+  staff_view posts audit repair tally = record {
+    posts = map (post_view lane coming left words_faults) posts;
+    kits = record {
+      audit = kit_view (nodes_view held asks nodes_faults) coming left words_faults ticks audit;
+      repair = kit_view (nodes_view held asks nodes_faults) coming left words_faults ticks repair;
+      tally = tally_view coming ticks (record { clock = tally.clock; ticks = tally.ticks });
+    };
+  }
 
 -- ---- the causes of a term's status
 
@@ -56,15 +81,24 @@ RoseBelow old new = Rose old new × (new < 2 ^ 64 - 1)
 abbrev pub NoneRose : List PostView → List PostView → Type 0
 NoneRose before after = (i : ℕ) (p q : PostView) → slice_get before i ≡ Some p → slice_get after i ≡ Some q → Rose p.lane.faults q.lane.faults → ⊥
 
--- 6 exactly where some session met the full term or a lane had all its sessions. 7 only where the count of a lane rose; and
--- where 6 isn't, also where one rose below the end of its type. 5 only where the console's count of writes rose.
-pub record Causes (t : Term) (rows : List LaneRow) (status : ℕ) (old new : About) : Type 0 where
-  pub full : status ≡ 6 → (met_full t || list_any (λ lane. has_many lane.items) t.lanes.items) ≡ true
-  pub is_full : (met_full t || list_any (λ lane. has_many lane.items) t.lanes.items) ≡ true → status ≡ 6
+-- nor that of the words of audit and of repair
+abbrev pub NoWordsRose : Kits → Kits → Type 0
+NoWordsRose before after = (Rose before.audit.words_faults after.audit.words_faults → ⊥) × (Rose before.repair.words_faults after.repair.words_faults → ⊥)
+
+-- 6 exactly where some session or round met the full term or a lane had all its sessions. 7 only where the count of a lane
+-- rose; and where 6 isn't, also where one rose below the end of its type. 10 only where the count of words of audit or repair
+-- rose; and where 6 and 7 aren't, also where one rose below the end of its type. 5 only where the console's count of writes
+-- rose.
+pub record Causes (t : Term) (rows : List LaneRow) (kits kits_after : Kits) (status : ℕ) (old new : About) : Type 0 where
+  pub full : status ≡ 6 → (met_full t || has_all_sessions t) ≡ true
+  pub is_full : (met_full t || has_all_sessions t) ≡ true → status ≡ 6
   pub failed : status ≡ 7 → Some1 (λ (row : LaneRow). Rose row.before.lane.faults row.after.lane.faults) rows
   pub is_failed : (status ≡ 6 → ⊥) → Some1 (λ (row : LaneRow). RoseBelow row.before.lane.faults row.after.lane.faults) rows → status ≡ 7
+  pub wordless : status ≡ 10 → Rose kits.audit.words_faults kits_after.audit.words_faults ⊎ Rose kits.repair.words_faults kits_after.repair.words_faults
+  pub is_wordless : (status ≡ 6 → ⊥) → (status ≡ 7 → ⊥)
+      → RoseBelow kits.audit.words_faults kits_after.audit.words_faults ⊎ RoseBelow kits.repair.words_faults kits_after.repair.words_faults → status ≡ 10
   pub cut : status ≡ 5 → Rose old.write_faults new.write_faults
-  pub which : (status ≡ 0) ⊎ ((status ≡ 5) ⊎ ((status ≡ 6) ⊎ ((status ≡ 7) ⊎ (status ≡ 9))))
+  pub which : (status ≡ 0) ⊎ ((status ≡ 5) ⊎ ((status ≡ 6) ⊎ ((status ≡ 7) ⊎ ((status ≡ 9) ⊎ (status ≡ 10)))))
 
 module _ {K : Type 0} (faults : K → ℕ) (is_clean is_open tells : K → Type 0) (rows_at : K → Rows) (leaves : K → Rows → Type 0) where
   -- there is no book, and it is said why; or there was no memory to begin
@@ -83,22 +117,24 @@ module _ {K : Type 0} (faults : K → ℕ) (is_clean is_open tells : K → Type 
     pub keeps : Keeps is_clean is_open tells rows_at leaves b.first b.opened keeper (start_of b.opening) history
     pub shown : last_shown b.opening.faults history ≤ faults keeper
 
-  -- a term of the book: whose replies are those of one machine, which worker made which entry, and why each ended
-  pub record IsTerm (secret : List ℕ) (term : ℕ) (b : BookView K) (keeper : K) (t : Term) (status : ℕ) (old new : About) (posts posts_after : List PostView) : Type 0 where
+  -- a term of the book: whose replies are those of one machine, which worker made which entry, what each round asked and
+  -- found, and why each worker ended
+  pub record IsTerm (secret : List ℕ) (term : ℕ) (b : BookView K) (keeper : K) (t : Term) (status : ℕ) (old new : About) (staff staff_after : StaffView) : Type 0 where
     pub ends : Ends
-    pub clauses : TermClauses NoRound NoRound NoRound secret term b.opening t ends posts posts_after no_kits no_kits
+    pub clauses : TermClauses (Tells kinds.Recheck kinds.Audit (Some b.opening)) (Tells kinds.Repair kinds.Exit (Some b.opening)) (TallyTells (Some b.opening))
+        secret term b.opening t ends staff.posts staff_after.posts staff.kits staff_after.kits
     pub stands : Stands b keeper t.history.items
-    pub finishes : Finishes (met_full t || list_any (λ lane. has_many lane.items) t.lanes.items) (list_any is_failed ends.lanes.items) (list_any is_wanting ends.lanes.items)
-        (length t.history.items) status old new
-    pub causes : Causes t clauses.rows status old new
+    -- whom its audits blame, and which bytes its repairs keep, of any segment that the reader names
+    pub named : SpeaksOfNamed (start_of b.opening).setup.secret b.opening t.history.items clauses.repair_number
+    pub finishes : Finishes (flags_of t ends) (length t.history.items) status old new
+    pub causes : Causes t clauses.rows staff.kits staff_after.kits status old new
 
   -- a term for which there was no memory: nothing was entered
-  pub record IsIdle (lanes : ℕ) (b : BookView K) (keeper : K) (t : Term) (status : ℕ) (old new : About) (posts posts_after : List PostView) : Type 0 where
+  pub record IsIdle (lanes : ℕ) (b : BookView K) (keeper : K) (t : Term) (status : ℕ) (old new : About) : Type 0 where
     pub rows : t.opening.items ≡ b.opening.rows
     pub none_yet : t.history.items ≡ []
     pub passes : length t.passes.items ≡ lanes + 3
     pub lists : length t.lanes.items ≡ lanes
     pub stands : Stands b keeper t.history.items
-    pub posts_are : posts_after ≡ posts
     pub is_wanting : status ≡ 9
     pub says : Says (fault_line 9) old new

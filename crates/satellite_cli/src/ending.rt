@@ -1,15 +1,17 @@
 // How a run of `serve` ends.
-ghost use Rattle.std.specs.Prelude.{◌≡◌, ◌||◌};
+ghost use Rattle.std.specs.Prelude.{◌≡◌, length};
 ghost use Rattle.std.specs.List.{list_any};
 ghost use Rattle.sat_console.specs.Run.{code_of};
-ghost use Rattle.sat_rounds.specs.Lanes.{is_term_full};
-ghost use Rattle.sat_term.specs.Term.{is_failed};
-ghost use Rattle.satellite_cli.specs.Ending.{EndsWith, Finishes, SaysBad, SaysEntries, SaysWhy, has_many, is_wanting, term_status};
+ghost use Rattle.sat_rounds.specs.Lanes.{session_full};
+ghost use Rattle.sat_rounds.specs.Rounds.{round_full};
+ghost use Rattle.sat_term.specs.Term.{is_failed, met_full};
+ghost use Rattle.satellite_cli.specs.Ending.{EndsWith, Finishes, SaysBad, SaysEntries, SaysWhy, flags_of, has_all_sessions, is_short, is_wanting, is_wordless, lacks_memory, lacks_words, term_status};
 
 use sat_base::{Link, NoMemory};
 use sat_book::OpenErr;
 use sat_console::{Status, fault, numbered_line, say, store_line};
-use sat_rounds::{LaneEnd, Session};
+use sat_rounds::{LaneEnd, Round, RoundEnd, RoundsEnd, Session, SessionEnd};
+use sat_term::{Ends, Term};
 use std::alloc::Global;
 
 // Says which row or record makes the store none.
@@ -39,10 +41,47 @@ pub(crate) fn say_why<C: Link>(alloc: Global, console: &mut C, why: &OpenErr) ->
     }
 }
 
-fn some_full(ends: &[LaneEnd]) -> bool
-    ensures { result ≡ list_any is_term_full ends.now }
+// Whether a session of a lane met the full term.
+fn some_session_full(sessions: &[Session]) -> bool
+    ensures { result ≡ list_any session_full sessions.now }
 {
-    ends.iter().any(|end| matches!(*end, LaneEnd::TermFull))
+    sessions.iter().any(|session| matches!(session.end, SessionEnd::TermFull { .. }))
+}
+
+// Whether one of any lane did.
+fn some_lane_full(lanes: &[Vec<Session>]) -> bool
+    ensures { result ≡ list_any (λ lane. list_any session_full lane.items) lanes.now }
+{
+    lanes.iter().any(|lane| some_session_full(lane))
+}
+
+// Whether a round did.
+fn some_round_full(rounds: &[Round]) -> bool
+    ensures { result ≡ list_any round_full rounds.now }
+{
+    rounds
+        .iter()
+        .any(|round| matches!(round.end, RoundEnd::TermFull { .. }))
+}
+
+// Whether a worker met the full term.
+#[tactic(auto, using(crate::proofs::Full::met_is))]
+fn met_full(term: &Term) -> bool
+    ensures { result ≡ met_full term.now }
+{
+    some_lane_full(&term.lanes)
+        || some_round_full(&term.audits)
+        || some_round_full(&term.repairs)
+        || some_round_full(&term.tallies)
+}
+
+// The most sessions of a lane.
+const SESSIONS: usize = 65536;
+
+fn has_all_sessions(term: &Term) -> bool
+    ensures { result ≡ has_all_sessions term.now }
+{
+    term.lanes.iter().any(|lane| lane.len() == SESSIONS)
 }
 
 fn some_failed(ends: &[LaneEnd]) -> bool
@@ -51,19 +90,41 @@ fn some_failed(ends: &[LaneEnd]) -> bool
     ends.iter().any(|end| matches!(*end, LaneEnd::Failed))
 }
 
+// Whether random words were wanting for a round.
+fn some_wordless(rounds: &[Round]) -> bool
+    ensures { result ≡ list_any (λ round. is_wordless round.end) rounds.now }
+{
+    rounds
+        .iter()
+        .any(|round| matches!(round.end, RoundEnd::WordsFault))
+}
+
+fn lacks_words(term: &Term) -> bool
+    ensures { result ≡ lacks_words term.now }
+{
+    some_wordless(&term.audits) || some_wordless(&term.repairs)
+}
+
 fn some_wanting(ends: &[LaneEnd]) -> bool
     ensures { result ≡ list_any is_wanting ends.now }
 {
     ends.iter().any(|end| matches!(*end, LaneEnd::NoMemory))
 }
 
-// The most sessions of a lane.
-const SESSIONS: usize = 65536;
-
-fn some_many(lanes: &[Vec<Session>]) -> bool
-    ensures { result ≡ list_any (λ lane. has_many lane.items) lanes.now }
+fn is_short(end: RoundsEnd) -> bool
+    ensures { result ≡ is_short end }
 {
-    lanes.iter().any(|lane| lane.len() == SESSIONS)
+    matches!(end, RoundsEnd::NoMemory)
+}
+
+// Whether memory was wanting for a worker.
+fn lacks_memory(ends: &Ends) -> bool
+    ensures { result ≡ lacks_memory ends.now }
+{
+    some_wanting(&ends.lanes)
+        || is_short(ends.audit)
+        || is_short(ends.repair)
+        || is_short(ends.tally)
 }
 
 /// What became of the last line of a run.
@@ -77,17 +138,19 @@ pub(crate) enum LastLine {
 }
 
 // The fault of a term, the gravest first, or that of its last line.
-fn status_of(ends: &[LaneEnd], lanes: &[Vec<Session>], last: LastLine) -> Status
-    ensures { code_of result ≡ term_status (list_any is_term_full ends.now || list_any (λ lane. has_many lane.items) lanes.now)
-        (list_any is_failed ends.now) (list_any is_wanting ends.now) last }
+fn status_of(ends: &Ends, term: &Term, last: LastLine) -> Status
+    ensures { code_of result ≡ term_status (flags_of term.now ends.now) last }
 {
-    if some_full(ends) || some_many(lanes) {
+    if met_full(term) || has_all_sessions(term) {
         return Status::TermFull;
     }
-    if some_failed(ends) {
+    if some_failed(&ends.lanes) {
         return Status::LaneFault;
     }
-    if some_wanting(ends) {
+    if lacks_words(term) {
+        return Status::WordsFault;
+    }
+    if lacks_memory(ends) {
         return Status::NoMemory;
     }
     match last {
@@ -124,18 +187,13 @@ fn say_status<C: Link>(console: &mut C, status: Status)
 }
 
 /// Says how many entries a term had, and then its fault, if there was one.
-pub(crate) fn finish<C: Link>(
-    alloc: Global,
-    console: &mut C,
-    ends: &[LaneEnd],
-    lanes: &[Vec<Session>],
-    entries: u64,
-) -> Status
-    ensures { Finishes (list_any is_term_full ends.now || list_any (λ lane. has_many lane.items) lanes.now)
-        (list_any is_failed ends.now) (list_any is_wanting ends.now) entries (code_of result) (C.about console.old) (C.about console.new) }
+pub(crate) fn finish<C: Link>(alloc: Global, console: &mut C, ends: &Ends, term: &Term) -> Status
+    ensures { Finishes (flags_of term.now ends.now) (length term.now.history.items)
+        (code_of result) (C.about console.old) (C.about console.new) }
 {
+    let entries = term.history.len() as u64;
     let last = say_entries(alloc, console, entries);
-    let status = status_of(ends, lanes, last);
+    let status = status_of(ends, term, last);
     say_status(console, status);
     status
 }

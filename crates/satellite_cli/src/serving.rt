@@ -1,21 +1,20 @@
 // The command `serve`.
-ghost use Rattle.std.specs.Prelude.{◌≡◌, ◌⊎◌, ◌+◌, ◌≤◌, [], None, IfSome, length, map, vec_capacity};
+ghost use Rattle.std.specs.Prelude.{◌≡◌, ◌⊎◌, ◌+◌, ◌≤◌, [], None, IfSome, IsSome, length, vec_capacity};
 ghost use Rattle.sat_book.specs.Book.{BookView, start_of};
 ghost use Rattle.sat_book.specs.Openings.{Opens};
 ghost use Rattle.sat_console.specs.Run.{code_of};
-ghost use Rattle.sat_rounds.specs.Lanes.{post_view};
 ghost use Rattle.sat_term.specs.Crew.{IsBlank};
-ghost use Rattle.satellite_cli.specs.Serving.{IsIdle, IsTerm, NotOpened, Stands};
+ghost use Rattle.satellite_cli.specs.Serving.{IsIdle, IsTerm, NotOpened, Stands, staff_view};
 
 use crate::ending::finish;
-use crate::no_rounds::NoRounds;
 use crate::opening::{Closed, Ready, open};
+use crate::staff::{Staff, crew_of, staff_of, tools_of};
 use order_limits::Keys;
-use sat_base::{Clock, Gate, Keeper, Lane, Link, Words};
+use sat_base::{Clock, Gate, Keeper, Lane, Link, NoMemory, Nodes, Ticks, Words};
 use sat_book::Book;
 use sat_console::{Status, fault};
-use sat_rounds::{Post, Session};
-use sat_term::{Crew, Kits, NotServed, Served, Sheet, Term, serve_term};
+use sat_rounds::Session;
+use sat_term::{NotServed, Served, Sheet, Term, serve_term};
 use std::alloc::Global;
 use std::sync::Wait;
 use std::thread::Threads;
@@ -88,21 +87,51 @@ fn idle_term<K: Keeper>(alloc: Global, book: Book<K>, sheet: Sheet, lanes: usize
 
 /// What a run of `serve` leaves, and what happened.
 #[derive(Drop)]
-pub(crate) struct Run<K, L, T, W> {
+pub(crate) struct Run<K, L, N, T, W, I> {
     pub status: Status,
     pub keeper: K,
-    pub posts: Vec<Post<L, T, W>>,
+    pub staff: Staff<L, N, T, W, I>,
     pub term: Option<Term>,
 }
 
-/// Opens a book over the keeper, has all lanes work at once until they end, and says how many entries there were. There are
-/// no workers of rounds.
+// What a run leaves where there was no memory for the workers.
+fn idle<C: Link, K: Keeper, L, N, T, W, I>(
+    alloc: Global,
+    console: &mut C,
+    book: Book<K>,
+    sheet: Sheet,
+    staff: Staff<L, N, T, W, I>,
+) -> Run<K, L, N, T, W, I>
+    requires none { book.history ≡ [] }
+    requires few { length staff.posts.items ≤ 16 }
+    requires blank { IsBlank (length staff.posts.items) sheet }
+    requires room { length staff.posts.items + 3 ≤ vec_capacity sheet.numbers }
+    ensures some { IsSome result.term }
+    ensures idle { IfSome result.term (λ t. IsIdle K.faults K.is_clean K.is_open K.tells K.rows K.leaves (length staff.posts.items) book result.keeper t
+        (code_of result.status) (C.about console.old) (C.about console.new)) }
+    ensures staff { result.staff ≡ staff }
+{
+    let lanes = staff.posts.len();
+    let status = fault(console, Status::NoMemory);
+    let (keeper, term) = idle_term(alloc, book, sheet, lanes);
+    Run {
+        status,
+        keeper,
+        staff,
+        term: Some(term),
+    }
+}
+
+/// Opens a book over the keeper, has all lanes and the workers of rounds work at once until they end, and says how many
+/// entries there were.
 pub(crate) fn serve<
     C: Link,
     K: Keeper + Send,
     L: Lane,
+    N: Nodes + Send,
     T: Clock + Send,
     W: Words + Send,
+    I: Ticks + Send,
     G: Gate,
     R: Threads + Wait + Sync,
 >(
@@ -111,25 +140,24 @@ pub(crate) fn serve<
     term: u64,
     console: &mut C,
     keeper: K,
-    posts: Vec<Post<L, T, W>>,
+    staff: Staff<L, N, T, W, I>,
     gate: &G,
-) -> Run<K, L, T, W>
+) -> Run<K, L, N, T, W, I>
     requires term { (1 ≤ term) × (term ≤ 65536) }
-    requires few { length posts.items ≤ 16 }
+    requires few { length staff.posts.items ≤ 16 }
     ensures closed { result.term ≡ None → NotOpened K.faults K.is_clean K.is_open K.tells K.rows K.leaves
-        keeper result.keeper (code_of result.status) (C.about console.old) (C.about console.new) × (result.posts ≡ posts) }
+        keeper result.keeper (code_of result.status) (C.about console.old) (C.about console.new) × (result.staff ≡ staff) }
     ensures term { IfSome result.term (λ t. (book : BookView K) × Opens K.faults K.is_clean K.is_open K.tells K.rows K.leaves
         keeper term book
         × (IsTerm K.faults K.is_clean K.is_open K.tells K.rows K.leaves (start_of book.opening).setup.secret term book result.keeper t
         (code_of result.status) (C.about console.old) (C.about console.new)
-        (map (post_view L.about T.coming W.left W.faults) posts.items)
-        (map (post_view L.about T.coming W.left W.faults) result.posts.items)
-        ⊎ IsIdle K.faults K.is_clean K.is_open K.tells K.rows K.leaves (length posts.items) book result.keeper t
-        (code_of result.status) (C.about console.old) (C.about console.new)
-        (map (post_view L.about T.coming W.left W.faults) posts.items)
-        (map (post_view L.about T.coming W.left W.faults) result.posts.items))) }
+        (staff_view L.about T.coming W.left W.faults N.held N.asks N.faults I.about staff.posts.items staff.audit staff.repair staff.tally)
+        (staff_view L.about T.coming W.left W.faults N.held N.asks N.faults I.about result.staff.posts.items result.staff.audit result.staff.repair result.staff.tally)
+        ⊎ (IsIdle K.faults K.is_clean K.is_open K.tells K.rows K.leaves (length staff.posts.items) book result.keeper t
+        (code_of result.status) (C.about console.old) (C.about console.new) × (result.staff ≡ staff)))) }
+    ensures spare { (result.staff.tally.nodes ≡ staff.tally.nodes) × (result.staff.tally.words ≡ staff.tally.words) }
 {
-    let lanes = posts.len();
+    let lanes = staff.posts.len();
     let Ready { book, sheet } = match open(alloc, console, keeper, term, lanes) {
         Ok(ready) => ready,
         Err(closed) => {
@@ -137,27 +165,18 @@ pub(crate) fn serve<
             return Run {
                 status,
                 keeper,
-                posts,
+                staff,
                 term: None,
             };
         }
     };
     let keys = keys_of(&book);
-    let kits = Kits {
-        audit: NoRounds,
-        repair: NoRounds,
-        tally: NoRounds,
+    let tools = match tools_of(alloc, &book) {
+        Ok(tools) => tools,
+        Err(NoMemory) => return idle(alloc, console, book, sheet, staff),
     };
-    match serve_term(
-        rt,
-        alloc,
-        book,
-        term,
-        &keys,
-        Crew { posts, kits },
-        gate,
-        sheet,
-    ) {
+    let (crew, spare) = crew_of(staff, tools);
+    match serve_term(rt, alloc, book, term, &keys, crew, gate, sheet) {
         Ok(served) => {
             let Served {
                 keeper,
@@ -165,27 +184,18 @@ pub(crate) fn serve<
                 term,
                 ends,
             } = served;
-            let Crew { posts, kits: _ } = crew;
-            let entries = term.history.len() as u64;
-            let status = finish(alloc, console, &ends.lanes, &term.lanes, entries);
+            let status = finish(alloc, console, &ends, &term);
             Run {
                 status,
                 keeper,
-                posts,
+                staff: staff_of(crew, spare),
                 term: Some(term),
             }
         }
         Err(refused) => {
             let NotServed { book, crew, sheet } = refused;
-            let Crew { posts, kits: _ } = crew;
-            let status = fault(console, Status::NoMemory);
-            let (keeper, term) = idle_term(alloc, book, sheet, lanes);
-            Run {
-                status,
-                keeper,
-                posts,
-                term: Some(term),
-            }
+            let staff = staff_of(crew, spare);
+            idle(alloc, console, book, sheet, staff)
         }
     }
 }

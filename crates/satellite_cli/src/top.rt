@@ -1,9 +1,9 @@
 // The top call.
-ghost use Rattle.std.specs.Prelude.{◌≡◌, ◌≤◌, ◌⊎◌, ◌&&◌, ℕ, List, [], Some, None, IfSome, length, map, MatchResult, false, true};
+ghost use Rattle.std.specs.Prelude.{◌≡◌, ◌≤◌, ◌⊎◌, ℕ, List, [], Some, None, IfSome, length, map, MatchResult, false};
 ghost use Rattle.sat_base.specs.Outside.{Rose};
 ghost use Rattle.sat_base.specs.Rows.{AreThe, Rows};
 ghost use Rattle.command_line.specs.Command.{MonthSheet, NewStore, Server, command_of, names_store};
-ghost use Rattle.command_line.specs.Command.Asked.{settle, judge, init, serve, sheet};
+ghost use Rattle.command_line.specs.Command.Asked.{settle, judge, init, serve, sheet, drill};
 ghost use Rattle.sat_book.specs.Book.{BookView, start_of};
 ghost use Rattle.sat_book.specs.Openings.{Opens};
 ghost use Rattle.sat_console.specs.Answers.{IsSettleText, answers_to};
@@ -14,27 +14,19 @@ ghost use Rattle.sat_init.specs.Init.{IsMade};
 ghost use Rattle.sat_init.specs.declared.setup.Setup.{Setup};
 ghost use Rattle.sat_rounds.specs.Lanes.{post_view};
 ghost use Rattle.satellite_cli.specs.Making.{Inits, IsAsked};
-ghost use Rattle.satellite_cli.specs.Ending.{is_served};
+ghost use Rattle.satellite_cli.specs.Drilling.{Drills};
 ghost use Rattle.satellite_cli.specs.Printing.{IsPrinted};
-ghost use Rattle.satellite_cli.specs.Serving.{AreSound, IsIdle, IsTerm, NoneRose, NotOpened};
+ghost use Rattle.satellite_cli.specs.Serving.{AreSound, IsIdle, IsTerm, NoneRose, NotOpened, staff_view};
 
 use crate::world::{Ended, World};
-use crate::worlds::{ended, init_world, serve_world, sheet_world};
+use crate::worlds::{drill_world, ended, init_world, serve_world, sheet_world};
 use command_line::{Command, LineErr, read_line};
-use sat_base::{Clock, Gate, Keeper, Lane, Line, Link, Words};
+use sat_base::{Clock, Gate, Keeper, Lane, Line, Link, Nodes, Ticks, Words};
 use sat_console::{Status, fault, judge, settle};
 use sat_init::Setup;
 use std::alloc::Global;
 use std::sync::Wait;
 use std::thread::Threads;
-
-// Says that a command isn't there yet, as of one that there isn't.
-fn unserved<C: Link>(console: &mut C) -> Status
-    ensures status { code_of result ≡ 2 }
-    ensures says { Says (fault_line 2) (C.about console.old) (C.about console.new) }
-{
-    fault(console, Status::Usage)
-}
 
 /// Runs the command that the words are, over the devices of a world.
 ///
@@ -43,16 +35,17 @@ fn unserved<C: Link>(console: &mut C) -> Status
 /// line, which says the indexes whose shares were altered. Both take an input of at most 1048576 bytes.
 /// `init` makes a store in the keeper, which has to have no rows, and writes the operator's key.
 /// `sheet` prints what each node's operator is owed for a month that is closed.
+/// `drill` drives a machine in memory by a number, and prints what came of it.
 ///
 /// The status says how it ended; each has its cause. The console's faults are counted by it.
 pub fn satellite<
     C: Link,
     K: Keeper + Send,
     L: Lane,
-    N,
+    N: Nodes + Send,
     T: Clock + Send,
     W: Words + Send,
-    I,
+    I: Ticks + Send,
     G: Gate,
     R: Threads + Wait + Sync,
 >(
@@ -63,11 +56,9 @@ pub fn satellite<
 ) -> Ended<C, K, L, N, T, W, I, G>
     requires { length world.posts.items ≤ 16 }
 
-    // 2 where the words are outside the grammar, or ask for a drill, which isn't made yet, and else nowhere; and
-    // then the console says so. Words that name a store may also meet the want of memory.
+    // 2 exactly where the words are outside the grammar; and then the console says so.
     ensures usage { command_of line.now ≡ None → result.status ≡ 2 }
-    ensures unserved { is_served (command_of line.now) ≡ false → (result.status ≡ 2) ⊎ ((result.status ≡ 9) × (names_store (command_of line.now) ≡ true)) }
-    ensures only_usage { result.status ≡ 2 → is_served (command_of line.now) ≡ false }
+    ensures only_usage { result.status ≡ 2 → command_of line.now ≡ None }
     ensures usage_line { result.status ≡ 2 →
         Says (fault_line (code_of Status.Usage)) (C.about world.console) (C.about result.world.console) }
 
@@ -104,8 +95,8 @@ pub fn satellite<
         (λ shares. (result.status ≡ 0) ⊎ (result.status ≡ 9))
         (λ number. (result.status ≡ 8) ⊎ (result.status ≡ 9)) }
 
-    // A command without a store, or one that isn't served, leaves all but the console as it was.
-    ensures idle { (names_store (command_of line.now) && is_served (command_of line.now)) ≡ false →
+    // A command without a store leaves all but the console as it was.
+    ensures idle { names_store (command_of line.now) ≡ false →
         (result.world ≡ record world { console = result.world.console }) × (result.term ≡ None) }
 
     // `init`: the store that was made, and the key that was written; or why there is none, and the keeper's rows as they were.
@@ -134,24 +125,25 @@ pub fn satellite<
     ensures crash { (store : NewStore) → command_of line.now ≡ Some (init store) →
         K.is_clean result.world.keeper → (m : Rows) → K.leaves result.world.keeper m → K.leaves world.keeper m
         ⊎ ((setup : Setup) × K.is_open world.keeper × IsMade setup (K.tells world.keeper) (K.rows world.keeper) m) }
-    // `serve`: without a book, why there is none.
+    // `serve`: without a book, why there is none; all other devices are handed back.
     ensures closed { (server : Server) → command_of line.now ≡ Some (serve server) → result.term ≡ None →
         NotOpened K.faults K.is_clean K.is_open K.tells K.rows K.leaves
-        world.keeper result.world.keeper result.status (C.about world.console) (C.about result.world.console) }
+        world.keeper result.world.keeper result.status (C.about world.console) (C.about result.world.console)
+        × (result.world ≡ record world { console = result.world.console; keeper = result.world.keeper }) }
 
-    // With one, the term: its history is that of one machine, of which each worker made just the entries that its sessions
-    // name; the keeper has the rows of its replay; and how each worker, and the run, ended.
+    // With one, the term: its history is that of one machine, of which each worker made just the entries that its sessions or
+    // rounds name; the keeper has the rows of its replay; what each round asked and found; and how each worker, and the run,
+    // ended. Or memory was wanting before the workers began.
     ensures serve { (server : Server) → command_of line.now ≡ Some (serve server) →
         IfSome result.term (λ t. (book : BookView K) × Opens K.faults K.is_clean K.is_open K.tells K.rows K.leaves
         world.keeper server.term book
         × (IsTerm K.faults K.is_clean K.is_open K.tells K.rows K.leaves (start_of book.opening).setup.secret server.term book result.world.keeper t
         result.status (C.about world.console) (C.about result.world.console)
-        (map (post_view L.about T.coming W.left W.faults) world.posts.items)
-        (map (post_view L.about T.coming W.left W.faults) result.world.posts.items)
-        ⊎ IsIdle K.faults K.is_clean K.is_open K.tells K.rows K.leaves (length world.posts.items) book result.world.keeper t
+        (staff_view L.about T.coming W.left W.faults N.held N.asks N.faults I.about world.posts.items world.audit world.repair world.tally)
+        (staff_view L.about T.coming W.left W.faults N.held N.asks N.faults I.about result.world.posts.items result.world.audit result.world.repair result.world.tally)
+        ⊎ (IsIdle K.faults K.is_clean K.is_open K.tells K.rows K.leaves (length world.posts.items) book result.world.keeper t
         result.status (C.about world.console) (C.about result.world.console)
-        (map (post_view L.about T.coming W.left W.faults) world.posts.items)
-        (map (post_view L.about T.coming W.left W.faults) result.world.posts.items))) }
+        × (result.world ≡ record world { console = result.world.console; keeper = result.world.keeper })))) }
 
     // Over sound rows, while no count rises, and unless the term was full or a lane had all its sessions: 0, or want of memory.
     ensures serve_complete { (server : Server) → command_of line.now ≡ Some (serve server) →
@@ -160,6 +152,8 @@ pub fn satellite<
         (Rose (C.about world.console).write_faults (C.about result.world.console).write_faults → ⊥) →
         NoneRose (map (post_view L.about T.coming W.left W.faults) world.posts.items)
         (map (post_view L.about T.coming W.left W.faults) result.world.posts.items) →
+        (Rose (W.faults world.audit.words) (W.faults result.world.audit.words) → ⊥) →
+        (Rose (W.faults world.repair.words) (W.faults result.world.repair.words) → ⊥) →
         (result.status ≡ 6 → ⊥) →
         (result.status ≡ 0) ⊎ (result.status ≡ 9) }
 
@@ -177,9 +171,28 @@ pub fn satellite<
         (result.status ≡ 8 → ⊥) →
         (result.status ≡ 0) ⊎ (result.status ≡ 9) }
 
-    // There are no workers of rounds yet: their kits are handed back as they came, but for what `init` draws.
-    ensures kits { (result.world.repair ≡ world.repair) × (result.world.tally ≡ world.tally) × (result.world.gate ≡ world.gate) }
-    ensures audit { (server : Server) → command_of line.now ≡ Some (serve server) → result.world.audit ≡ world.audit }
+    // `drill`: its history is that of one machine whose store never failed, and what was written grew by the text that tells of
+    // it; at status 5 by a front of that. Or memory was wanting. No other command makes one.
+    ensures drill { (start calls : ℕ) → command_of line.now ≡ Some (drill start calls) →
+        Drills result.status (C.about world.console) (C.about result.world.console) result.drilled }
+    ensures no_drill { ((start calls : ℕ) → command_of line.now ≡ Some (drill start calls) → ⊥) → result.drilled ≡ None }
+
+    // While no count rises: 0, or want of memory.
+    ensures drill_complete { (start calls : ℕ) → command_of line.now ≡ Some (drill start calls) →
+        (Rose (C.about world.console).write_faults (C.about result.world.console).write_faults → ⊥) →
+        (result.status ≡ 0) ⊎ (result.status ≡ 9) }
+
+    // No other command than `serve` uses more than the console, the keeper, and what `init` draws.
+    ensures others { ((server : Server) → command_of line.now ≡ Some (serve server) → ⊥) →
+        result.world ≡ record world {
+          console = result.world.console;
+          keeper = result.world.keeper;
+          audit = record world.audit { clock = result.world.audit.clock; words = result.world.audit.words };
+        } }
+
+    // The worker of tallies asks no node and draws no word, and the gate is handed back.
+    ensures spare { (result.world.tally.nodes ≡ world.tally.nodes) × (result.world.tally.words ≡ world.tally.words) }
+    ensures gate { result.world.gate ≡ world.gate }
 {
     let mut world = world;
     let status = match read_line(alloc, line) {
@@ -208,7 +221,7 @@ pub fn satellite<
         }
         Ok(Command::Serve { term, .. }) => return serve_world(rt, alloc, term, world),
         Ok(Command::Sheet { month, .. }) => return sheet_world(alloc, month, world),
-        Ok(Command::Drill { .. }) => unserved(&mut world.console),
+        Ok(Command::Drill { start, calls }) => return drill_world(alloc, start, calls, world),
         Err(LineErr::Usage) => fault(&mut world.console, Status::Usage),
         Err(LineErr::NoMemory) => {
             let status = fault(&mut world.console, Status::NoMemory);

@@ -1,16 +1,9 @@
 // The devices of a run, and what it leaves.
+use node_rounds::Kit;
 use sat_base::Link;
+use sat_drill::Drilled;
 use sat_rounds::Post;
 use sat_term::Term;
-
-/// What a worker of rounds has: the nodes that it asks, a clock, a source of random words and its ticks.
-#[derive(Drop)]
-pub struct Kit<N, T, W, I> {
-    pub nodes: N,
-    pub clock: T,
-    pub words: W,
-    pub ticks: I,
-}
 
 /// The devices of a run. `init` uses the clock and the words of `audit`.
 #[derive(Drop)]
@@ -21,8 +14,10 @@ pub struct World<C: Link, K, L, N, T, W, I, G> {
     pub keeper: K,
     /// What the worker of each lane has, at most 16 of them.
     pub posts: Vec<Post<L, T, W>>,
+    /// What the workers of rounds have: the one that audits, the one that repairs, and the one that tallies.
     pub audit: Kit<N, T, W, I>,
     pub repair: Kit<N, T, W, I>,
+    /// Of this one the nodes and the words aren't used.
     pub tally: Kit<N, T, W, I>,
     /// What the workers pass.
     pub gate: G,
@@ -37,4 +32,6 @@ pub struct Ended<C: Link, K, L, N, T, W, I, G> {
     pub world: World<C, K, L, N, T, W, I, G>,
     /// What happened, exactly where `serve` opened its book.
     pub term: Option<Term>,
+    /// What a drill did, exactly where `drill` was run and found memory.
+    pub drilled: Option<Drilled>,
 }

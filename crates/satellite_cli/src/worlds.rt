@@ -1,20 +1,22 @@
 // Commands over the devices of a world.
-ghost use Rattle.std.specs.Prelude.{◌≡◌, ◌≤◌, ◌⊎◌, None, IfSome, length, map};
+ghost use Rattle.std.specs.Prelude.{◌≡◌, ◌≤◌, ◌⊎◌, None, IfSome, length};
 ghost use Rattle.sat_base.specs.Rows.{Rows};
 ghost use Rattle.sat_book.specs.Book.{BookView, start_of};
 ghost use Rattle.sat_book.specs.Openings.{Opens};
 ghost use Rattle.sat_console.specs.Run.{code_of};
 ghost use Rattle.sat_init.specs.Init.{IsMade};
-ghost use Rattle.sat_rounds.specs.Lanes.{post_view};
+ghost use Rattle.satellite_cli.specs.Drilling.{Drills};
 ghost use Rattle.satellite_cli.specs.Making.{Inits};
 ghost use Rattle.satellite_cli.specs.Printing.{IsPrinted};
-ghost use Rattle.satellite_cli.specs.Serving.{IsIdle, IsTerm, NotOpened};
+ghost use Rattle.satellite_cli.specs.Serving.{IsIdle, IsTerm, NotOpened, staff_view};
 
+use crate::drilling::{Drill, make_drill};
 use crate::making::make_store;
 use crate::printing::{Looked, print_sheet};
 use crate::serving::{Run, serve};
+use crate::staff::Staff;
 use crate::world::{Ended, World};
-use sat_base::{Clock, Gate, Keeper, Lane, Link, Month, Words};
+use sat_base::{Clock, Gate, Keeper, Lane, Link, Month, Nodes, Ticks, Words};
 use sat_console::Status;
 use sat_init::Setup;
 use std::alloc::Global;
@@ -31,12 +33,13 @@ pub(crate) fn ended<
     I,
     G: Gate,
 >(status: Status, world: World<C, K, L, N, T, W, I, G>) -> Ended<C, K, L, N, T, W, I, G>
-    ensures { result ≡ record { status = code_of status; world = world; term = None } }
+    ensures { result ≡ record { status = code_of status; world = world; term = None; drilled = None } }
 {
     Ended {
         status: status.code(),
         world,
         term: None,
+        drilled: None,
     }
 }
 
@@ -65,7 +68,12 @@ pub(crate) fn init_world<
         (K.faults world.keeper) (K.faults result.world.keeper)
         (W.faults world.audit.words) (W.faults result.world.audit.words)
         (K.is_open result.world.keeper × K.tells world.keeper) (K.rows world.keeper) (K.rows result.world.keeper) }
-    ensures kits { (result.world.repair ≡ world.repair) × (result.world.tally ≡ world.tally) × (result.world.gate ≡ world.gate) }
+    ensures others { result.world ≡ record world {
+      console = result.world.console;
+      keeper = result.world.keeper;
+      audit = record world.audit { clock = result.world.audit.clock; words = result.world.audit.words };
+    } }
+    ensures nothing { (result.term ≡ None) × (result.drilled ≡ None) }
     ensures crash { K.is_clean result.world.keeper → (m : Rows) → K.leaves result.world.keeper m → K.leaves world.keeper m
         ⊎ (K.is_open world.keeper × IsMade setup.now (K.tells world.keeper) (K.rows world.keeper) m) }
 {
@@ -86,10 +94,10 @@ pub(crate) fn serve_world<
     C: Link,
     K: Keeper + Send,
     L: Lane,
-    N,
+    N: Nodes + Send,
     T: Clock + Send,
     W: Words + Send,
-    I,
+    I: Ticks + Send,
     G: Gate,
     R: Threads + Wait + Sync,
 >(
@@ -102,19 +110,20 @@ pub(crate) fn serve_world<
     requires few { length world.posts.items ≤ 16 }
     ensures not_usage { result.status ≡ 2 → ⊥ }
     ensures closed { result.term ≡ None → NotOpened K.faults K.is_clean K.is_open K.tells K.rows K.leaves
-        world.keeper result.world.keeper result.status (C.about world.console) (C.about result.world.console) }
+        world.keeper result.world.keeper result.status (C.about world.console) (C.about result.world.console)
+        × (result.world ≡ record world { console = result.world.console; keeper = result.world.keeper }) }
     ensures term { IfSome result.term (λ t. (book : BookView K) × Opens K.faults K.is_clean K.is_open K.tells K.rows K.leaves
         world.keeper term book
         × (IsTerm K.faults K.is_clean K.is_open K.tells K.rows K.leaves (start_of book.opening).setup.secret term book result.world.keeper t
         result.status (C.about world.console) (C.about result.world.console)
-        (map (post_view L.about T.coming W.left W.faults) world.posts.items)
-        (map (post_view L.about T.coming W.left W.faults) result.world.posts.items)
-        ⊎ IsIdle K.faults K.is_clean K.is_open K.tells K.rows K.leaves (length world.posts.items) book result.world.keeper t
+        (staff_view L.about T.coming W.left W.faults N.held N.asks N.faults I.about world.posts.items world.audit world.repair world.tally)
+        (staff_view L.about T.coming W.left W.faults N.held N.asks N.faults I.about result.world.posts.items result.world.audit result.world.repair result.world.tally)
+        ⊎ (IsIdle K.faults K.is_clean K.is_open K.tells K.rows K.leaves (length world.posts.items) book result.world.keeper t
         result.status (C.about world.console) (C.about result.world.console)
-        (map (post_view L.about T.coming W.left W.faults) world.posts.items)
-        (map (post_view L.about T.coming W.left W.faults) result.world.posts.items))) }
-    ensures audit { result.world.audit ≡ world.audit }
-    ensures kits { (result.world.repair ≡ world.repair) × (result.world.tally ≡ world.tally) × (result.world.gate ≡ world.gate) }
+        × (result.world ≡ record world { console = result.world.console; keeper = result.world.keeper })))) }
+    ensures spare { (result.world.tally.nodes ≡ world.tally.nodes) × (result.world.tally.words ≡ world.tally.words) }
+    ensures gate { result.world.gate ≡ world.gate }
+    ensures no_drill { result.drilled ≡ None }
 {
     let World {
         mut console,
@@ -125,13 +134,25 @@ pub(crate) fn serve_world<
         tally,
         gate,
     } = world;
-    let run = serve(rt, alloc, term, &mut console, keeper, posts, &gate);
+    let staff = Staff {
+        posts,
+        audit,
+        repair,
+        tally,
+    };
+    let run = serve(rt, alloc, term, &mut console, keeper, staff, &gate);
     let Run {
         status,
         keeper,
-        posts,
+        staff,
         term,
     } = run;
+    let Staff {
+        posts,
+        audit,
+        repair,
+        tally,
+    } = staff;
     Ended {
         status: status.code(),
         world: World {
@@ -144,6 +165,7 @@ pub(crate) fn serve_world<
             gate,
         },
         term,
+        drilled: None,
     }
 }
 
@@ -166,6 +188,7 @@ pub(crate) fn sheet_world<
     ensures printed { IsPrinted K.faults K.is_clean K.is_open K.tells K.rows K.leaves month.0
         world.keeper result.world.keeper result.status (C.about world.console) (C.about result.world.console) }
     ensures others { (result.world ≡ record world { console = result.world.console; keeper = result.world.keeper }) × (result.term ≡ None) }
+    ensures no_drill { result.drilled ≡ None }
 {
     let World {
         mut console,
@@ -189,4 +212,36 @@ pub(crate) fn sheet_world<
             gate,
         },
     )
+}
+
+// `drill` over a world.
+pub(crate) fn drill_world<
+    C: Link,
+    K: Keeper + Send,
+    L: Lane,
+    N,
+    T: Clock + Send,
+    W: Words + Send,
+    I,
+    G: Gate,
+>(
+    alloc: Global,
+    start: u64,
+    calls: u64,
+    world: World<C, K, L, N, T, W, I, G>,
+) -> Ended<C, K, L, N, T, W, I, G>
+    requires { (1 ≤ calls) × (calls ≤ 20000) }
+    ensures not_usage { result.status ≡ 2 → ⊥ }
+    ensures drills { Drills result.status (C.about world.console) (C.about result.world.console) result.drilled }
+    ensures others { (result.world ≡ record world { console = result.world.console }) × (result.term ≡ None) }
+{
+    let mut world = world;
+    let drill = make_drill(alloc, &mut world.console, start, calls);
+    let Drill { status, drilled } = drill;
+    Ended {
+        status: status.code(),
+        world,
+        term: None,
+        drilled,
+    }
 }

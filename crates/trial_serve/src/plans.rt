@@ -2,9 +2,9 @@
 use crate::lane::TrialLane;
 use sat_base::{
     Change, Committed, HoldGate, Keeper, KeeperMem, Loaded, MemClock, MemConsole, MemLink,
-    MemTicks, MemWords, NoMemory, Row,
+    MemNodes, MemTicks, MemWords, NoMemory, Row,
 };
-use satellite_cli::{Kit, Post, World};
+use satellite_cli::{Post, World};
 use std::alloc::Global;
 
 /// A clock's moments, and random words of which the draws of some numbers fail.
@@ -39,7 +39,7 @@ pub type MemWorld = World<
     MemConsole,
     KeeperMem,
     TrialLane,
-    (),
+    MemNodes,
     MemClock,
     MemWords,
     MemTicks,
@@ -48,21 +48,6 @@ pub type MemWorld = World<
 
 /// What the worker of a lane has.
 pub type MemPost = Post<TrialLane, MemClock, MemWords>;
-
-/// A kit that draws from this source.
-pub fn kit(source: Source) -> Kit<(), MemClock, MemWords, MemTicks> {
-    let Source {
-        moments,
-        words,
-        failing,
-    } = source;
-    Kit {
-        nodes: (),
-        clock: MemClock::of(moments),
-        words: MemWords::of(words, failing),
-        ticks: MemTicks::of(0),
-    }
-}
 
 /// What the worker of this lane has.
 pub fn post(alloc: Global, plan: LanePlan) -> MemPost {

@@ -1,13 +1,10 @@
 // The devices of the next run.
-ghost use Rattle.std.specs.Prelude.{◌≤◌, length};
-
-use crate::plans::{LanePlan, MemWorld, Source, keeper_of, kit, post};
+use crate::plans::{LanePlan, MemWorld, Source, keeper_of, post};
+use crate::running::{line_of, point, run_over};
 use crate::telling::{RunTold, told_run};
-use sat_base::{
-    Clock, Gate, HoldGate, Keeper, KeeperMem, Lane, Line, Link, MemConsole, MemLink, NoMemory,
-    Point, Row, Words,
-};
-use satellite_cli::{Ended, World, satellite};
+use crate::workers::{Worker, Workers};
+use sat_base::{HoldGate, KeeperMem, MemConsole, MemLink, NoMemory, Point, Row};
+use satellite_cli::{Ended, World};
 use std::alloc::Global;
 use std::mem;
 use std::sync::Wait;
@@ -17,6 +14,9 @@ use trial_lines::{Fields, LineErr, bytes_of, row, told_row};
 // The most lanes of a run.
 const LANES: usize = 16;
 
+// A point to which nobody comes.
+const NOWHERE: Point = Point::SessionRead { lane: u16::MAX };
+
 /// What the next run has.
 #[derive(Drop)]
 pub struct Stage {
@@ -24,56 +24,18 @@ pub struct Stage {
     rows: Vec<Row>,
     keeper_failing: Vec<u64>,
     console_failing: Vec<u64>,
-    init: Source,
+    workers: Workers,
     lanes: Vec<LanePlan>,
+    drawer: Drawer,
     hold: Point,
     until: Point,
 }
 
-// A point of the gate.
-fn point(word: &str) -> Result<Point, LineErr> {
-    let Some((name, lane)) = word.split_once(':') else {
-        return Err(LineErr::Bad);
-    };
-    let Ok(lane) = lane.parse::<u16>() else {
-        return Err(LineErr::Bad);
-    };
-    match name {
-        "read" => Ok(Point::SessionRead { lane }),
-        "sent" => Ok(Point::SessionSent { lane }),
-        _ => Err(LineErr::Bad),
-    }
-}
-
-// The words of a command.
-fn line_of(alloc: Global, words: &str) -> Result<Line, NoMemory> {
-    let mut line = Line::new(alloc);
-    for word in words.split_ascii_whitespace() {
-        line.push(word)?;
-    }
-    Ok(line)
-}
-
-// Runs the command over any world.
-fn run_over<
-    C: Link,
-    K: Keeper + Send,
-    L: Lane,
-    N,
-    T: Clock + Send,
-    W: Words + Send,
-    I,
-    G: Gate,
-    R: Threads + Wait + Sync,
->(
-    rt: &R,
-    alloc: Global,
-    line: &Line,
-    world: World<C, K, L, N, T, W, I, G>,
-) -> Ended<C, K, L, N, T, W, I, G>
-    requires { length world.posts.items ≤ 16 }
-{
-    satellite(rt, alloc, line, world)
+// Who draws from the moments and the words of the next lines. `init` draws from those of audits.
+#[derive(Clone, Copy, Debug, PartialEq, Eq)]
+enum Drawer {
+    LastLane,
+    Rounds(Worker),
 }
 
 impl Stage {
@@ -84,10 +46,11 @@ impl Stage {
             rows: Vec::new(alloc),
             keeper_failing: Vec::new(alloc),
             console_failing: Vec::new(alloc),
-            init: Source::new(alloc),
+            workers: Workers::new(alloc),
             lanes: Vec::new(alloc),
-            hold: Point::AuditFetch,
-            until: Point::RepairFetch,
+            drawer: Drawer::Rounds(Worker::Audit),
+            hold: NOWHERE,
+            until: NOWHERE,
         }
     }
 
@@ -110,7 +73,8 @@ impl Stage {
     fn taken<R: Threads + Wait + Sync>(&mut self, rt: &R, line: &str) -> Result<String, LineErr> {
         let mut fields = Fields::of_line(line, 0);
         match fields.word()? {
-            "run" => self.run(rt, fields.rest()),
+            "run" => self.run(rt, fields.rest(), true),
+            "race" => self.run(rt, fields.rest(), false),
             "rows" => {
                 fields.end()?;
                 self.told_rows()
@@ -139,10 +103,15 @@ impl Stage {
             "links" => self.add_links(&mut fields),
             "moments" => {
                 let moments = fields.numbers(self.alloc)?;
-                self.source().moments = moments;
+                self.source()?.moments = moments;
                 fields.end()
             }
             "words" => self.note_words(&mut fields),
+            "worker" => {
+                self.drawer = Drawer::Rounds(self.workers.note(self.alloc, &mut fields)?);
+                Ok(())
+            }
+            "holds" => self.workers.hold(self.alloc, &mut fields),
             "hold" => {
                 self.hold = point(fields.word()?)?;
                 self.until = point(fields.word()?)?;
@@ -152,11 +121,14 @@ impl Stage {
         }
     }
 
-    // What the last lane draws from, or `init`.
-    fn source(&mut self) -> &mut Source {
-        match self.lanes.last_mut() {
-            Some(lane) => &mut lane.source,
-            None => &mut self.init,
+    // What is drawn from next.
+    fn source(&mut self) -> Result<&mut Source, LineErr> {
+        match self.drawer {
+            Drawer::Rounds(worker) => Ok(&mut self.workers.plan(worker).source),
+            Drawer::LastLane => match self.lanes.last_mut() {
+                Some(lane) => Ok(&mut lane.source),
+                None => Err(LineErr::Bad),
+            },
         }
     }
 
@@ -188,6 +160,7 @@ impl Stage {
     fn add_lane(&mut self, fields: &mut Fields<'_>) -> Result<(), LineErr> {
         let failing = fields.numbers(self.alloc)?;
         fields.end()?;
+        self.drawer = Drawer::LastLane;
         Ok(
             self.lanes.push(LanePlan {
                 links: Vec::new(self.alloc),
@@ -227,7 +200,7 @@ impl Stage {
         let failing = fields.numbers(self.alloc)?;
         fields.end()?;
         let words = Vec::from_elem(self.alloc, word, usize::from(count))?;
-        let source = self.source();
+        let source = self.source()?;
         source.words = words;
         source.failing = failing;
         Ok(())
@@ -241,11 +214,17 @@ impl Stage {
             rows,
             keeper_failing,
             console_failing,
-            init,
+            workers,
             lanes,
+            drawer: _,
             hold,
             until,
         } = mem::replace(self, Stage::new(alloc));
+        let Workers {
+            audit,
+            repair,
+            tally,
+        } = workers;
         let mut posts = Vec::new(alloc);
         for plan in lanes {
             posts.push(post(alloc, plan))?;
@@ -254,14 +233,20 @@ impl Stage {
             console: MemConsole::of(alloc, Vec::new(alloc), console_failing),
             keeper: keeper_of(alloc, rows, keeper_failing)?,
             posts,
-            audit: kit(init),
-            repair: kit(Source::new(alloc)),
-            tally: kit(Source::new(alloc)),
+            audit: audit.kit(alloc),
+            repair: repair.kit(alloc),
+            tally: tally.kit(alloc),
             gate: HoldGate::of(hold, until),
         })
     }
 
-    fn run<R: Threads + Wait + Sync>(&mut self, rt: &R, words: &str) -> Result<String, LineErr> {
+    // Runs the command, and tells of it, with or without the places of entries.
+    fn run<R: Threads + Wait + Sync>(
+        &mut self,
+        rt: &R,
+        words: &str,
+        places: bool,
+    ) -> Result<String, LineErr> {
         let line = line_of(self.alloc, words)?;
         let world = self.world()?;
         if world.posts.len() > LANES {
@@ -272,6 +257,7 @@ impl Stage {
             status,
             world,
             term,
+            drilled: _,
         } = ended;
         let text = told_run(
             self.alloc,
@@ -280,6 +266,7 @@ impl Stage {
                 console: world.console.written(),
                 posts: &world.posts,
                 late: world.gate.ran_out(),
+                places,
             },
             &term,
         )?;

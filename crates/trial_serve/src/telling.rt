@@ -1,7 +1,7 @@
 // What a run came to, as lines.
 use crate::lane::TrialLane;
 use sat_base::{MemClock, MemWords};
-use sat_rounds::{Session, SessionEnd};
+use sat_rounds::{Round, RoundEnd, Session, SessionEnd};
 use satellite_cli::{Post, Term};
 use std::alloc::Global;
 use trial_lines::{LineErr, text_of};
@@ -14,6 +14,8 @@ pub struct RunTold<'a> {
     pub posts: &'a [Post<TrialLane, MemClock, MemWords>],
     /// The gate held for too long.
     pub late: bool,
+    /// The places of entries are told.
+    pub places: bool,
 }
 
 // Lines, each of which stands once for all that are the same behind it.
@@ -72,9 +74,12 @@ impl Runs {
     }
 }
 
-fn told_session(alloc: Global, session: &Session) -> Result<String, LineErr> {
+fn told_session(alloc: Global, session: &Session, places: bool) -> Result<String, LineErr> {
     let (what, sent) = match session.end {
-        SessionEnd::Entered { place, sent } => (format!(in alloc; "entered {place}")?, sent),
+        SessionEnd::Entered { place, sent } if places => {
+            (format!(in alloc; "entered {place}")?, sent)
+        }
+        SessionEnd::Entered { place: _, sent } => (String::from_str(alloc, "entered")?, sent),
         SessionEnd::Edge { error: _, sent } => (String::from_str(alloc, "edge")?, sent),
         SessionEnd::ReadFault => (String::from_str(alloc, "read-fault")?, true),
         SessionEnd::WordsFault { sent } => (String::from_str(alloc, "words-fault")?, sent),
@@ -89,18 +94,57 @@ fn told_session(alloc: Global, session: &Session) -> Result<String, LineErr> {
     Ok(text)
 }
 
+fn told_round(alloc: Global, name: &str, round: &Round, places: bool) -> Result<String, LineErr> {
+    let end = match round.end {
+        RoundEnd::Through => String::from_str(alloc, "through")?,
+        RoundEnd::WordsFault => String::from_str(alloc, "words-fault")?,
+        RoundEnd::TermFull { ticket } => format!(in alloc; "term-full {ticket}")?,
+        RoundEnd::Stopped => String::from_str(alloc, "stopped")?,
+        RoundEnd::NoMemory => String::from_str(alloc, "no-memory")?,
+    };
+    let mut text = format!(in alloc; "round {name} {end}")?;
+    for place in &round.places {
+        if places {
+            text.push_str(&format!(in alloc; " {place}")?)?;
+        } else {
+            text.push_str(" entry")?;
+        }
+    }
+    Ok(text)
+}
+
+fn add_rounds(
+    alloc: Global,
+    runs: &mut Runs,
+    name: &str,
+    rounds: &[Round],
+    places: bool,
+) -> Result<(), LineErr> {
+    for round in rounds {
+        runs.add(told_round(alloc, name, round, places)?)?;
+    }
+    Ok(())
+}
+
+fn add_term(alloc: Global, runs: &mut Runs, term: &Term, places: bool) -> Result<(), LineErr> {
+    for (number, sessions) in term.lanes.iter().enumerate() {
+        for session in sessions {
+            let told = told_session(alloc, session, places)?;
+            runs.add(format!(in alloc; "session {number} {told}")?)?;
+        }
+    }
+    add_rounds(alloc, runs, "audit", &term.audits, places)?;
+    add_rounds(alloc, runs, "repair", &term.repairs, places)?;
+    add_rounds(alloc, runs, "tally", &term.tallies, places)
+}
+
 /// The lines of a run.
 pub fn told_run(alloc: Global, run: &RunTold<'_>, term: &Option<Term>) -> Result<String, LineErr> {
     let status = run.status;
     let console = text_of(alloc, run.console)?;
     let mut runs = Runs::new(alloc);
     if let Some(term) = term {
-        for (number, sessions) in term.lanes.iter().enumerate() {
-            for session in sessions {
-                let told = told_session(alloc, session)?;
-                runs.add(format!(in alloc; "session {number} {told}")?)?;
-            }
-        }
+        add_term(alloc, &mut runs, term, run.places)?;
     }
     for (number, post) in run.posts.iter().enumerate() {
         for link in post.lane.done() {

@@ -4,8 +4,8 @@ ghost use Rattle.std.specs.Prelude.{◌≤◌, length};
 use crate::asking::NOW;
 use anyhow::{Result, bail};
 use sat_base::{
-    Clock, Gate, Keeper, Lane, Line, Link, MemClock, MemConsole, MemTicks, MemWords, OpenGate,
-    Words,
+    Clock, Gate, Keeper, Lane, Line, Link, MemClock, MemConsole, MemNodes, MemTicks, MemWords,
+    Nodes, OpenGate, Ticks, Words,
 };
 use sat_devices::TcpLane;
 use satellite_cli::{Ended, Kit, Post, World, satellite};
@@ -31,7 +31,7 @@ type Ran<K> = Ended<
     MemConsole,
     K,
     TcpLane<HostRuntime>,
-    (),
+    MemNodes,
     MemClock,
     MemWords,
     MemTicks,
@@ -53,9 +53,9 @@ fn clock(alloc: Global, now: u64) -> Result<MemClock> {
     Ok(MemClock::of(vec![in alloc; now; 16]?))
 }
 
-fn kit(alloc: Global) -> Result<Kit<(), MemClock, MemWords, MemTicks>> {
+fn kit(alloc: Global) -> Result<Kit<MemNodes, MemClock, MemWords, MemTicks>> {
     Ok(Kit {
-        nodes: (),
+        nodes: MemNodes::of(alloc, Vec::new(alloc), Vec::new(alloc)),
         clock: clock(alloc, NOW)?,
         words: MemWords::of(Vec::new(alloc), Vec::new(alloc)),
         ticks: MemTicks::of(0),
@@ -67,10 +67,10 @@ fn run_over<
     C: Link,
     K: Keeper + Send,
     L: Lane,
-    N,
+    N: Nodes + Send,
     T: Clock + Send,
     W: Words + Send,
-    I,
+    I: Ticks + Send,
     G: Gate,
     R: Threads + Wait + Sync,
 >(
@@ -143,6 +143,7 @@ fn left_of<K: Keeper>(ran: Ran<K>) -> Left<K> {
         status,
         world,
         term: _,
+        drilled: _,
     } = ran;
     let World {
         console,

@@ -5,11 +5,12 @@ use Rattle.sat_console.proofs.Runs.{judges_through, settles_through}
 use Rattle.sat_console.specs.Run.{code_of}
 use Rattle.sat_init.specs.declared.setup.Setup.{Setup}
 use Rattle.satellite_cli.proofs.Asking.{is_asked, same_month, same_term}
+use Rattle.satellite_cli.proofs.Drills.{drills_well}
 use Rattle.satellite_cli.proofs.Ends.{not_usage, serves_well}
 use Rattle.satellite_cli.proofs.Inits.{inits_well}
 use Rattle.satellite_cli.proofs.Prints.{sheets_well}
 use Rattle.satellite_cli.proofs.Terms.{says_to}
-use Rattle.satellite_cli.proofs.top.satellite.Goals.{in-Ok-Settle, in-Ok-Judge, in-Ok-Drill, in-Err-Usage}
+use Rattle.satellite_cli.proofs.top.satellite.Goals.{in-Ok-Settle, in-Ok-Judge, in-Err-Usage}
 use Rattle.satellite_cli.proofs.top.satellite.Goals as goal
 
 pub returns-in-Ok-Init-clause-once : goal.returns-in-Ok-Init-clause-once
@@ -48,9 +49,12 @@ returns-in-Ok-Serve-clause-serve g c = λ server is.
     rw same c.serve_world.ensures.term
 
 pub returns-in-Ok-Serve-clause-serve_complete : goal.returns-in-Ok-Serve-clause-serve_complete
-returns-in-Ok-Serve-clause-serve_complete g c = λ server is up told sound no_fault no_cut none no_full.
-    serves_well g.K.Keeper.faults g.K.Keeper.is_clean g.K.Keeper.is_open g.K.Keeper.tells g.K.Keeper.rows g.K.Keeper.leaves _ (λ b. (start_of b.opening).setup.secret) _ _ _ _ _ _ _ _ _
-    c.serve_world.ensures.closed c.serve_world.ensures.term up told sound no_fault no_cut none no_full
+returns-in-Ok-Serve-clause-serve_complete g c = λ server is up told sound no_fault no_cut none no_audit no_repair no_full.
+    serves_well g.K.Keeper.faults g.K.Keeper.is_clean g.K.Keeper.is_open g.K.Keeper.tells g.K.Keeper.rows g.K.Keeper.leaves _ (λ b. (start_of b.opening).setup.secret) _ _ _ _ _ _ _ _ _ _
+    c.serve_world.ensures.closed c.serve_world.ensures.term up told sound no_fault no_cut none (no_audit, no_repair) no_full
+
+pub returns-in-Ok-Serve-clause-others : goal.returns-in-Ok-Serve-clause-others
+returns-in-Ok-Serve-clause-others g c = λ not. absurd (not _ (rw c.in-Ok-Serve.field-0-is at c.in-Ok-Serve.ensures.command))
 
 pub returns-in-Ok-Sheet-clause-once : goal.returns-in-Ok-Sheet-clause-once
 returns-in-Ok-Sheet-clause-once g c = settles_once
@@ -64,6 +68,15 @@ pub returns-in-Ok-Sheet-clause-sheet_complete : goal.returns-in-Ok-Sheet-clause-
 returns-in-Ok-Sheet-clause-sheet_complete g c = λ asked is up told sound no_fault no_cut closed.
     sheets_well g.K.Keeper.faults g.K.Keeper.is_clean g.K.Keeper.is_open g.K.Keeper.tells g.K.Keeper.rows g.K.Keeper.leaves _ _ _ _ _ _
     c.sheet_world.ensures.printed up told sound no_fault no_cut closed
+
+pub returns-in-Ok-Drill-clause-once : goal.returns-in-Ok-Drill-clause-once
+returns-in-Ok-Drill-clause-once g c = settles_once
+
+pub returns-in-Ok-Drill-clause-drill : goal.returns-in-Ok-Drill-clause-drill
+returns-in-Ok-Drill-clause-drill g c = λ start calls is. c.drill_world.ensures.drills
+
+pub returns-in-Ok-Drill-clause-drill_complete : goal.returns-in-Ok-Drill-clause-drill_complete
+returns-in-Ok-Drill-clause-drill_complete g c = λ start calls is no_cut. drills_well _ _ _ _ c.drill_world.ensures.drills no_cut
 
 pub returns-in-Err-NoMemory-clause-once : goal.returns-in-Err-NoMemory-clause-once
 returns-in-Err-NoMemory-clause-once g c = settles_once
@@ -80,7 +93,6 @@ returns-clause-usage_line g c =
     elim c.match-read_line.branch [
       | in-Ok-Settle w ↦ λ two. absurd (not_usage _ _ ((λ i. (c.ended-2.ensures i).status) ∙ ap code_of w.status-is) w.settle-status.ensures.which two)
       | in-Ok-Judge w ↦ λ two. absurd (not_usage _ _ ((λ i. (c.ended-2.ensures i).status) ∙ ap code_of w.status-is) w.judge-status.ensures.which two)
-      | in-Ok-Drill w ↦ λ two. says_to _ _ _ _ (ap about ((λ i. (c.ended-2.ensures i).world.console) ∙ (λ i. (w.world-is i).console))) w.unserved-status.ensures.says
       | in-Err-Usage w ↦ λ two. says_to _ _ _ _ (ap about ((λ i. (c.ended-2.ensures i).world.console) ∙ (λ i. (w.world-is i).console))) w.fault-status.ensures.says
     ]
 

@@ -1,0 +1,222 @@
+// Calls of each kind, each timed by itself.
+ghost use Rattle.std.specs.Prelude.{ℕ, ◌<◌, slice_index_or};
+ghost use Rattle.machine_step.specs.Step.{IsWellFormed};
+
+use crate::made::{AMOUNT, LEN, Size, customer_of, node_of, now, serial_at};
+use crate::{fold, upkeep};
+use anyhow::{Result, bail};
+use audit_core::Checked;
+use order_limits::{Action, Keys, Limit, Order, read_order};
+use sat_base::{Items, NodeId, SegId, Serial};
+use sat_machine::Call;
+use std::alloc::Global;
+use std::time::{Clock, Instant};
+use trial_core::Trial;
+
+/// What the machine is asked.
+#[derive(Clone, Copy)]
+pub(crate) enum Kind {
+    /// To settle an order whose serial is above those of all rows.
+    SettleAbove,
+    /// To settle an order whose serial is among those of the rows.
+    SettleAmong,
+    Get,
+    Begin,
+    Delete,
+    SetFree,
+    PlanAudit,
+    PlanRepair,
+    PlanExit,
+    /// To plan a recheck, and to end it with a pass.
+    Recheck,
+}
+
+impl Kind {
+    /// Its name in what is printed.
+    pub(crate) fn name(self) -> &'static str {
+        match self {
+            Kind::SettleAbove => "settle_above",
+            Kind::SettleAmong => "settle_among",
+            Kind::Get => "get",
+            Kind::Begin => "begin",
+            Kind::Delete => "delete",
+            Kind::SetFree => "set_free",
+            Kind::PlanAudit => "plan_audit",
+            Kind::PlanRepair => "plan_repair",
+            Kind::PlanExit => "plan_exit",
+            Kind::Recheck => "recheck",
+        }
+    }
+}
+
+// Another place for each call, spread over so many and out of order. The factor has no divisor in common with the
+// numbers of calls, 5 and 200, so that no place comes twice.
+fn spread(number: u64, size: Size, among: u64) -> u64 {
+    let turn = number.wrapping_mul(77).checked_rem(size.calls).unwrap_or(0);
+    turn.saturating_mul(among.checked_div(size.calls).unwrap_or(0))
+}
+
+// The bytes of an order that a node presents.
+fn order(keys: &Keys, serial: u64, node: NodeId) -> [u8; 123] {
+    let limit = Limit {
+        action: Action::Get,
+        serial: Serial(serial),
+        node,
+        segment: SegId(1),
+        index: 0,
+        limit: AMOUNT,
+        issued: now().seconds(),
+        expires: now().seconds(),
+        customer: customer_of(serial),
+    };
+    let order = Order {
+        limit,
+        amount: serial % AMOUNT,
+    };
+    order.write(keys)
+}
+
+/// Random words (Knuth's MMIX).
+pub(crate) fn random_words(seed: u64) -> [u64; 128] {
+    let mut words = [0; 128];
+    let mut state = seed;
+    for word in words.iter_mut() {
+        state = state
+            .wrapping_mul(6364136223846793005)
+            .wrapping_add(1442695040888963407);
+        *word = state;
+    }
+    words
+}
+
+/// Whether a call did what it asked, the check sum of its reply, and how many nanoseconds it took.
+#[derive(Clone, Copy)]
+pub(crate) struct Answer {
+    pub accepted: bool,
+    pub sum: u64,
+    pub spent: u128,
+}
+
+/// Asks a call.
+pub(crate) fn timed(clock: &impl Clock, trial: &mut Trial, call: Call) -> Result<Answer>
+    requires { IsWellFormed trial.old call }
+{
+    let start = Instant::now(clock)?;
+    let reply = trial.take(call)?;
+    let spent = start.elapsed(clock)?.as_nanos();
+    Ok(Answer {
+        accepted: fold::is_accepted(&reply),
+        sum: fold::reply(fold::EMPTY, &reply),
+        spent,
+    })
+}
+
+// A slice of bytes is one.
+fn are_bytes(bytes: &[u8])
+    ensures { (i : ℕ) → slice_index_or bytes.now i 0 < 256 }
+{
+    let _ = bytes;
+}
+
+fn settle(
+    clock: &impl Clock,
+    alloc: Global,
+    keys: &Keys,
+    trial: &mut Trial,
+    node: NodeId,
+    serial: u64,
+) -> Result<Answer> {
+    let bytes = Items::of(Vec::from_slice(alloc, &order(keys, serial, node))?);
+    are_bytes(bytes.as_slice());
+    let call = Call::Settle {
+        now: now(),
+        node,
+        bytes,
+    };
+    timed(clock, trial, call)
+}
+
+fn get(clock: &impl Clock, trial: &mut Trial, request: u64, segment: u64) -> Result<Answer> {
+    let call = Call::Get {
+        now: now(),
+        customer: customer_of(segment),
+        request,
+        segment: SegId(segment),
+    };
+    timed(clock, trial, call)
+}
+
+fn begin(clock: &impl Clock, alloc: Global, trial: &mut Trial, request: u64) -> Result<Answer> {
+    let words = Vec::from_slice(alloc, &random_words(request))?;
+    let call = Call::Begin {
+        now: now(),
+        customer: customer_of(request),
+        request,
+        len: LEN,
+        words: Items::of(words),
+    };
+    timed(clock, trial, call)
+}
+
+fn delete(clock: &impl Clock, trial: &mut Trial, request: u64, segment: u64) -> Result<Answer> {
+    let call = Call::Delete {
+        now: now(),
+        customer: customer_of(segment),
+        request,
+        segment: SegId(segment),
+    };
+    timed(clock, trial, call)
+}
+
+/// Asks the call of a kind that has this number, from 0 on. The requests of later kinds have greater numbers.
+pub(crate) fn ask(
+    clock: &impl Clock,
+    alloc: Global,
+    keys: &Keys,
+    trial: &mut Trial,
+    size: Size,
+    kind: Kind,
+    number: u64,
+) -> Result<Answer> {
+    let request = number.saturating_add(1);
+    match kind {
+        Kind::SettleAbove => {
+            let serial = serial_at(size.rows.saturating_add(number));
+            settle(clock, alloc, keys, trial, node_of(size, serial), serial)
+        }
+        Kind::SettleAmong => {
+            let serial = serial_at(spread(number, size, size.rows)).saturating_add(1);
+            settle(clock, alloc, keys, trial, node_of(size, serial), serial)
+        }
+        Kind::Get => {
+            let segment = spread(number, size, size.segments).saturating_add(1);
+            get(clock, trial, request, segment)
+        }
+        Kind::Begin => {
+            let request = request.saturating_add(size.calls);
+            begin(clock, alloc, trial, request)
+        }
+        Kind::Delete => {
+            let segment = spread(number, size, size.segments).saturating_add(2);
+            let request = request.saturating_add(size.calls.saturating_mul(2));
+            delete(clock, trial, request, segment)
+        }
+        Kind::SetFree => upkeep::set_free(clock, trial, node_of(size, number), number),
+        Kind::PlanAudit => upkeep::plan_audit(clock, alloc, trial, number),
+        Kind::PlanRepair => upkeep::plan_repair(clock, alloc, trial, number),
+        Kind::PlanExit => upkeep::plan_exit(clock, alloc, trial, number),
+        Kind::Recheck => upkeep::recheck(clock, trial, Checked::Pass),
+    }
+}
+
+/// How many nanoseconds it takes to read the order of this number alone.
+pub(crate) fn read_alone(clock: &impl Clock, keys: &Keys, number: u64) -> Result<u128> {
+    let bytes = order(keys, serial_at(number), NodeId(1));
+    let start = Instant::now(clock)?;
+    let read = read_order(keys, &bytes);
+    let spent = start.elapsed(clock)?.as_nanos();
+    if read.is_err() {
+        bail!("an order isn't read");
+    }
+    Ok(spent)
+}

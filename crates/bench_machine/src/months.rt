@@ -1,0 +1,86 @@
+// Months in which some hours are tallied, and which are closed then, each call timed by itself.
+use crate::calls::{Answer, timed};
+use crate::made::{MONTH, NOW, Size, node_of};
+use crate::runs::Outcome;
+use anyhow::Result;
+use sat_base::{Moment, Month};
+use sat_machine::Call;
+use std::alloc::Global;
+use std::time::Clock;
+use trial_core::Trial;
+
+// When the store's month is over, and each of the next ones.
+const ENDS: [u64; 5] = [
+    1_769_904_000,
+    1_772_323_200,
+    1_775_001_600,
+    1_777_593_600,
+    1_780_272_000,
+];
+
+// The hours of each month that are tallied.
+const HOURS: u64 = 5;
+
+/// What came of the calls on months.
+#[derive(Drop)]
+pub(crate) struct Months {
+    pub tallies: Outcome,
+    pub closes: Outcome,
+    pub statements: Outcome,
+}
+
+fn tally_hour(clock: &impl Clock, trial: &mut Trial, at: u64) -> Result<Answer> {
+    let now = Moment::of(at);
+    timed(clock, trial, Call::TallyHour { now })
+}
+
+fn close_month(clock: &impl Clock, trial: &mut Trial, at: u64, month: Month) -> Result<Answer> {
+    let now = Moment::of(at);
+    timed(clock, trial, Call::CloseMonth { now, month })
+}
+
+// The statements of the first month, of one node for each call of a kind.
+fn ask_statements(
+    clock: &impl Clock,
+    trial: &mut Trial,
+    size: Size,
+    outcome: &mut Outcome,
+) -> Result<()> {
+    for number in 0..size.calls {
+        let call = Call::Statement {
+            node: node_of(size, number),
+            month: Month(MONTH),
+        };
+        outcome.add(timed(clock, trial, call)?)?;
+    }
+    Ok(())
+}
+
+/// Tallies some hours of each month and closes it, and then asks for statements of the first.
+pub(crate) fn pass(
+    clock: &impl Clock,
+    alloc: Global,
+    trial: &mut Trial,
+    size: Size,
+) -> Result<Months> {
+    let mut months = Months {
+        tallies: Outcome::new(alloc),
+        closes: Outcome::new(alloc),
+        statements: Outcome::new(alloc),
+    };
+    let mut month = MONTH;
+    let mut from = NOW;
+    for end in ENDS {
+        for hour in 0..HOURS {
+            let at = from.saturating_add(hour.saturating_mul(3600));
+            months.tallies.add(tally_hour(clock, trial, at)?)?;
+        }
+        months
+            .closes
+            .add(close_month(clock, trial, end, Month(month))?)?;
+        month = month.saturating_add(1);
+        from = end;
+    }
+    ask_statements(clock, trial, size, &mut months.statements)?;
+    Ok(months)
+}

@@ -1,0 +1,91 @@
+// Calls of the satellite's own work, each timed by itself.
+use crate::calls::{Answer, random_words, timed};
+use crate::made::now;
+use anyhow::{Result, bail};
+use audit_core::{Checked, RecheckPlan};
+use sat_base::{Items, NodeId};
+use sat_machine::{Call, Reply};
+use std::alloc::Global;
+use std::time::{Clock, Instant};
+use trial_core::Trial;
+
+/// A node tells other free bytes at each call.
+pub(crate) fn set_free(
+    clock: &impl Clock,
+    trial: &mut Trial,
+    node: NodeId,
+    free: u64,
+) -> Result<Answer> {
+    let call = Call::SetFree {
+        now: now(),
+        node,
+        free,
+    };
+    timed(clock, trial, call)
+}
+
+pub(crate) fn plan_audit(
+    clock: &impl Clock,
+    alloc: Global,
+    trial: &mut Trial,
+    seed: u64,
+) -> Result<Answer> {
+    let words = Vec::from_slice(alloc, &[seed, seed])?;
+    let call = Call::PlanAudit {
+        now: now(),
+        words: Items::of(words),
+    };
+    timed(clock, trial, call)
+}
+
+pub(crate) fn plan_repair(
+    clock: &impl Clock,
+    alloc: Global,
+    trial: &mut Trial,
+    seed: u64,
+) -> Result<Answer> {
+    let words = Vec::from_slice(alloc, &random_words(seed))?;
+    let call = Call::PlanRepair {
+        now: now(),
+        words: Items::of(words),
+    };
+    timed(clock, trial, call)
+}
+
+pub(crate) fn plan_exit(
+    clock: &impl Clock,
+    alloc: Global,
+    trial: &mut Trial,
+    seed: u64,
+) -> Result<Answer> {
+    let words = Vec::from_slice(alloc, &random_words(seed))?;
+    let call = Call::PlanExit {
+        now: now(),
+        words: Items::of(words),
+    };
+    timed(clock, trial, call)
+}
+
+fn recheck_plan(trial: &mut Trial) -> Result<RecheckPlan> {
+    match trial.take(Call::PlanRecheck { now: now() })? {
+        Reply::RecheckPlanned { plan, .. } => Ok(plan),
+        _ => bail!("no recheck is planned"),
+    }
+}
+
+/// A recheck is planned, and ended by what came of it.
+pub(crate) fn recheck(clock: &impl Clock, trial: &mut Trial, checked: Checked) -> Result<Answer> {
+    let start = Instant::now(clock)?;
+    let plan = recheck_plan(trial)?;
+    let planned = start.elapsed(clock)?.as_nanos();
+    let call = Call::EndRecheck {
+        now: now(),
+        plan,
+        checked,
+    };
+    let ended = timed(clock, trial, call)?;
+    Ok(Answer {
+        spent: planned.saturating_add(ended.spent),
+        ..ended
+    })
+}

@@ -1,0 +1,3 @@
+pub mod Generator
+pub mod Run
+pub mod Drill
