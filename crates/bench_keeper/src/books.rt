@@ -1,7 +1,10 @@
 // Books over files of settled orders.
-use crate::files::{Done, close_after, commit, keeper_of, open, report};
+ghost use Rattle.std.specs.Prelude.{IfOk};
+ghost use Rattle.machine_step.specs.Step.{IsAsked};
+
+use crate::files::{Done, Work, commit, keeper_of, over_file, report, use_file};
 use anyhow::{Result, bail};
-use machine_calls::Reply;
+use machine_calls::{Call, Reply};
 use order_limits::Keys;
 use sat_base::{Change, Keeper, Row};
 use sqlite::{Alter, Connection};
@@ -64,19 +67,25 @@ fn fill_keeper<K: Keeper>(alloc: Global, keeper: &mut K, count: u64) -> Result<(
     Ok(())
 }
 
-fn fill_through<S: Alter + Drop>(
-    alloc: Global,
-    conn: Connection<S>,
+// A store of so many settled orders.
+#[derive(Drop)]
+struct Filled {
     count: u64,
-) -> Result<Done<S, ()>> {
-    let mut keeper = keeper_of(conn)?;
-    let filled = fill_keeper(alloc, &mut keeper, count);
-    Ok((keeper.into_connection(), filled))
+}
+
+impl Work for Filled {
+    type Output = ();
+
+    fn over<S: Alter + Drop>(self, rt: &HostRuntime, conn: Connection<S>) -> Result<Done<S, ()>> {
+        let mut keeper = keeper_of(conn)?;
+        let filled = fill_keeper(rt.alloc(), &mut keeper, self.count);
+        Ok((keeper.into_connection(), filled))
+    }
 }
 
 /// Makes a store of so many settled orders, whose serials begin with 0.
 pub(crate) fn fill(rt: &HostRuntime, path: &str, count: u64) -> Result<()> {
-    close_after(fill_through(rt.alloc(), open(rt, path)?, count)?)
+    over_file(rt, path, Filled { count })
 }
 
 fn shelf_of<K: Keeper>(alloc: Global, keeper: K) -> Result<Shelf<K>> {
@@ -86,44 +95,62 @@ fn shelf_of<K: Keeper>(alloc: Global, keeper: K) -> Result<Shelf<K>> {
     }
 }
 
-fn open_through<S: Alter + Drop>(rt: &HostRuntime, conn: Connection<S>) -> Result<Done<S, ()>> {
-    let start = Instant::now(rt)?;
-    let shelf = shelf_of(rt.alloc(), keeper_of(conn)?)?;
-    let told = report(rt, "book", start);
-    let (keeper, _) = shelf.close();
-    Ok((keeper.into_connection(), told))
+// A book that is opened.
+#[derive(Drop)]
+struct Opening;
+
+impl Work for Opening {
+    type Output = ();
+
+    fn over<S: Alter + Drop>(self, rt: &HostRuntime, conn: Connection<S>) -> Result<Done<S, ()>> {
+        let start = Instant::now(rt)?;
+        let shelf = shelf_of(rt.alloc(), keeper_of(conn)?)?;
+        let told = report(rt, "book", start);
+        let (keeper, _) = shelf.close();
+        Ok((keeper.into_connection(), told))
+    }
 }
 
 /// How long it takes to open a file, and a book over it.
 pub(crate) fn time_opening(rt: &HostRuntime, path: &str) -> Result<()> {
-    let start = Instant::now(rt)?;
-    let conn = open(rt, path)?;
-    let told = report(rt, "file", start);
-    close_after(open_through(rt, conn)?)?;
-    told
+    let used = use_file(rt, path, Some("file"), Opening)?;
+    used.closed?;
+    used.value
 }
 
-// Settles the order of a serial, and gives the nanoseconds of that.
+// The call that settles the order of a serial.
+fn call_of(alloc: Global, keys: &Keys, serial: u64) -> Result<Call>
+    ensures { IfOk result IsAsked }
+{
+    let line = format!(in alloc;
+        "settle 1772323200 1 order 2 {serial} 1 5 3 1000 1772323200 1772409600 9 1000"
+    )?;
+    match call(alloc, keys, &mut Fields::of_line(&line, 0)) {
+        Ok(call) => Ok(call),
+        Err(_) => bail!("no call"),
+    }
+}
+
+fn is_settled(reply: Option<Reply>) -> bool {
+    matches!(reply, Some(Reply::Settled { .. }))
+}
+
+// Settles the order of a serial, and gives the nanoseconds of that. Nothing ends the function while there is a call or a reply,
+// since to prove how these are let go takes long.
 fn settle<K: Keeper>(
     rt: &HostRuntime,
     keys: &Keys,
     shelf: &mut Shelf<K>,
     serial: u64,
 ) -> Result<u128> {
-    let alloc = rt.alloc();
-    let line = format!(in alloc;
-        "settle 1772323200 1 order 2 {serial} 1 5 3 1000 1772323200 1772409600 9 1000"
-    )?;
-    let Ok(call) = call(alloc, keys, &mut Fields::of_line(&line, 0)) else {
-        bail!("no call");
-    };
-    let start = Instant::now(rt)?;
-    let reply = shelf.ask(call);
-    let spent = start.elapsed(rt)?.as_nanos();
-    match reply {
-        Some(Reply::Settled { .. }) => Ok(spent),
-        _ => bail!("not settled"),
+    let call = call_of(rt.alloc(), keys, serial)?;
+    let start = Instant::now(rt);
+    let settled = is_settled(shelf.ask(call));
+    let spent = start?.elapsed(rt)?.as_nanos();
+    if !settled {
+        bail!("not settled");
     }
+    Ok(spent)
 }
 
 fn settle_all<K: Keeper>(
@@ -140,21 +167,27 @@ fn settle_all<K: Keeper>(
     Ok(())
 }
 
-fn settle_through<S: Alter + Drop>(
-    rt: &HostRuntime,
-    conn: Connection<S>,
+// Settles so many orders, from a serial on.
+#[derive(Drop)]
+struct Settles {
     first: u64,
     count: u64,
-) -> Result<Done<S, ()>> {
-    let mut shelf = shelf_of(rt.alloc(), keeper_of(conn)?)?;
-    let settled = settle_all(rt, &mut shelf, first, count);
-    let (keeper, _) = shelf.close();
-    Ok((keeper.into_connection(), settled))
+}
+
+impl Work for Settles {
+    type Output = ();
+
+    fn over<S: Alter + Drop>(self, rt: &HostRuntime, conn: Connection<S>) -> Result<Done<S, ()>> {
+        let mut shelf = shelf_of(rt.alloc(), keeper_of(conn)?)?;
+        let settled = settle_all(rt, &mut shelf, self.first, self.count);
+        let (keeper, _) = shelf.close();
+        Ok((keeper.into_connection(), settled))
+    }
 }
 
 /// How long it takes to settle so many orders, from a serial on.
 pub(crate) fn time_settles(rt: &HostRuntime, path: &str, first: u64, count: u64) -> Result<()> {
-    close_after(settle_through(rt, open(rt, path)?, first, count)?)
+    over_file(rt, path, Settles { first, count })
 }
 
 // The rows of one settled order, as a book commits them.
@@ -176,18 +209,24 @@ fn commit_all<K: Keeper>(rt: &HostRuntime, keeper: &mut K, first: u64, count: u6
     Ok(())
 }
 
-fn commit_through<S: Alter + Drop>(
-    rt: &HostRuntime,
-    conn: Connection<S>,
+// Commits the rows of so many settled orders, from a serial on.
+#[derive(Drop)]
+struct Commits {
     first: u64,
     count: u64,
-) -> Result<Done<S, ()>> {
-    let mut keeper = keeper_of(conn)?;
-    let done = commit_all(rt, &mut keeper, first, count);
-    Ok((keeper.into_connection(), done))
+}
+
+impl Work for Commits {
+    type Output = ();
+
+    fn over<S: Alter + Drop>(self, rt: &HostRuntime, conn: Connection<S>) -> Result<Done<S, ()>> {
+        let mut keeper = keeper_of(conn)?;
+        let done = commit_all(rt, &mut keeper, self.first, self.count);
+        Ok((keeper.into_connection(), done))
+    }
 }
 
 /// How long it takes to commit the rows of as many settled orders by the keeper alone.
 pub(crate) fn time_commits(rt: &HostRuntime, path: &str, first: u64, count: u64) -> Result<()> {
-    close_after(commit_through(rt, open(rt, path)?, first, count)?)
+    over_file(rt, path, Commits { first, count })
 }

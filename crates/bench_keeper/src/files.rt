@@ -1,12 +1,9 @@
 // Keepers over files, and what is done with them.
-//
-// The prover takes a bound `Keeper` at once where the store is any store, and not where it is a file. So
-// what is called of a keeper over a file stands in functions over any store.
 use crate::made::{puts, row, sum_of};
 use anyhow::{Result, bail};
 use keeper_sqlite::KeeperSqlite;
 use sat_base::{Change, Committed, Keeper, Loaded, Row};
-use sqlite::{Alter, Connection, File, FileStore};
+use sqlite::{Alter, Connection};
 use std::alloc::Global;
 use std::time::Instant;
 
@@ -14,9 +11,6 @@ use std::time::Instant;
 const ROWS: u64 = 240;
 
 const BATCH: u64 = 60;
-
-/// A connection to a file.
-pub(crate) type Handle = Connection<FileStore<File>>;
 
 /// A keeper over any store.
 pub(crate) fn keeper_of<S: Alter + Drop>(conn: Connection<S>) -> Result<KeeperSqlite<S>> {
@@ -45,23 +39,52 @@ pub(crate) fn load<K: Keeper>(alloc: Global, keeper: &mut K) -> Result<Vec<Row>>
     }
 }
 
-pub(crate) fn open(rt: &HostRuntime, path: &str) -> Result<Handle> {
-    Ok(Connection::open(rt, path)?)
-}
-
 /// A connection that is given back, and what came of the work by it.
 pub(crate) type Done<S, T> = (Connection<S>, Result<T>);
 
-/// Closes the file, whatever came of the work.
-pub(crate) fn close_after<T: Drop>(done: Done<FileStore<File>, T>) -> Result<T> {
-    let (conn, value) = done;
-    close(conn)?;
-    value
+/// What is done with an open file. The prover looks into a file's own type once, in `use_file`, and not for each work.
+pub(crate) trait Work: Drop {
+    type Output: Drop;
+
+    fn over<S: Alter + Drop>(
+        self,
+        rt: &HostRuntime,
+        conn: Connection<S>,
+    ) -> Result<Done<S, Self::Output>>;
 }
 
-pub(crate) fn close(conn: Handle) -> Result<()> {
-    conn.close()?;
-    Ok(())
+/// What came of the work over a file, and of closing it.
+#[derive(Drop)]
+pub(crate) struct Used<T> {
+    pub value: Result<T>,
+    pub closed: Result<()>,
+}
+
+/// Opens a file, prints how long that took where it has a name, works over it and closes it.
+pub(crate) fn use_file<W: Work>(
+    rt: &HostRuntime,
+    path: &str,
+    opening: Option<&str>,
+    work: W,
+) -> Result<Used<W::Output>> {
+    let start = Instant::now(rt)?;
+    let conn = Connection::open(rt, path)?;
+    if let Some(what) = opening {
+        report(rt, what, start)?;
+    }
+    let (conn, value) = work.over(rt, conn)?;
+    let closed = match conn.close() {
+        Ok(()) => Ok(()),
+        Err(error) => Err(error.into()),
+    };
+    Ok(Used { value, closed })
+}
+
+/// What came of the work over a file, which is closed.
+pub(crate) fn over_file<W: Work>(rt: &HostRuntime, path: &str, work: W) -> Result<W::Output> {
+    let used = use_file(rt, path, None, work)?;
+    used.closed?;
+    used.value
 }
 
 /// Prints the nanoseconds since a start.
@@ -71,8 +94,8 @@ pub(crate) fn report(rt: &HostRuntime, what: &str, start: Instant) -> Result<()>
     Ok(())
 }
 
-/// Rows, a second body for some, and removals for others. By its bound a keeper in a file can go to a thread.
-pub(crate) fn play<K: Keeper + Send>(alloc: Global, keeper: &mut K) -> Result<()> {
+/// Rows, a second body for some, and removals for others.
+pub(crate) fn play<K: Keeper>(alloc: Global, keeper: &mut K) -> Result<()> {
     for batch in 0..ROWS / BATCH {
         commit(alloc, keeper, &puts(alloc, batch * BATCH, BATCH, 1)?)?;
     }
@@ -87,44 +110,68 @@ pub(crate) fn play<K: Keeper + Send>(alloc: Global, keeper: &mut K) -> Result<()
     commit(alloc, keeper, &changes)
 }
 
-fn load_through<S: Alter + Drop>(alloc: Global, conn: Connection<S>) -> Result<Done<S, Vec<Row>>> {
-    let mut keeper = keeper_of(conn)?;
-    let rows = load(alloc, &mut keeper);
-    Ok((keeper.into_connection(), rows))
-}
+// All rows of a file.
+#[derive(Drop)]
+struct Rows;
 
-fn sum_played<K: Keeper + Send>(alloc: Global, keeper: &mut K) -> Result<u64> {
-    play(alloc, keeper)?;
-    Ok(sum_of(&load(alloc, keeper)?))
-}
+impl Work for Rows {
+    type Output = Vec<Row>;
 
-fn play_through<S: Alter + Drop + Send>(
-    alloc: Global,
-    conn: Connection<S>,
-) -> Result<Done<S, u64>> {
-    let mut keeper = keeper_of(conn)?;
-    let sum = sum_played(alloc, &mut keeper);
-    Ok((keeper.into_connection(), sum))
+    fn over<S: Alter + Drop>(
+        self,
+        rt: &HostRuntime,
+        conn: Connection<S>,
+    ) -> Result<Done<S, Vec<Row>>> {
+        let mut keeper = keeper_of(conn)?;
+        let rows = load(rt.alloc(), &mut keeper);
+        Ok((keeper.into_connection(), rows))
+    }
 }
 
 /// The rows of a file.
 pub(crate) fn rows_of(rt: &HostRuntime, path: &str) -> Result<Vec<Row>> {
-    close_after(load_through(rt.alloc(), open(rt, path)?)?)
+    over_file(rt, path, Rows)
 }
 
-fn is_refused(rt: &HostRuntime, path: &str) -> Result<bool> {
-    match Connection::open(rt, path) {
-        Ok(second) => {
-            close(second)?;
-            Ok(false)
-        }
-        Err(_) => Ok(true),
+/// Nothing.
+#[derive(Drop)]
+pub(crate) struct Nothing;
+
+impl Work for Nothing {
+    type Output = ();
+
+    fn over<S: Alter + Drop>(self, _rt: &HostRuntime, conn: Connection<S>) -> Result<Done<S, ()>> {
+        Ok((conn, Ok(())))
+    }
+}
+
+// The rows that are played, and whether a second handle is refused meanwhile.
+#[derive(Drop)]
+struct Played<'a> {
+    path: &'a str,
+}
+
+fn sum_played<K: Keeper>(alloc: Global, keeper: &mut K) -> Result<u64> {
+    play(alloc, keeper)?;
+    Ok(sum_of(&load(alloc, keeper)?))
+}
+
+impl Work for Played<'_> {
+    type Output = (u64, bool);
+
+    fn over<S: Alter + Drop>(
+        self,
+        rt: &HostRuntime,
+        conn: Connection<S>,
+    ) -> Result<Done<S, (u64, bool)>> {
+        let mut keeper = keeper_of(conn)?;
+        let sum = sum_played(rt.alloc(), &mut keeper);
+        let refused = use_file(rt, self.path, None, Nothing).is_err();
+        Ok((keeper.into_connection(), sum.map(|sum| (sum, refused))))
     }
 }
 
 /// The check sum of what was committed to a file, and whether a second handle was refused meanwhile.
 pub(crate) fn write_file(rt: &HostRuntime, path: &str) -> Result<(u64, bool)> {
-    let done = play_through(rt.alloc(), open(rt, path)?)?;
-    let refused = is_refused(rt, path);
-    Ok((close_after(done)?, refused?))
+    over_file(rt, path, Played { path })
 }

@@ -1,5 +1,5 @@
 // Rows committed until the disk is full.
-use crate::files::{Done, close, keeper_of, open};
+use crate::files::{Done, Work, keeper_of, use_file};
 use crate::made::puts;
 use anyhow::{Result, bail};
 use sat_base::{Committed, Keeper, Loaded};
@@ -44,17 +44,25 @@ fn fill_keeper<K: Keeper>(rt: &HostRuntime, keeper: &mut K) -> Result<()> {
     print_loaded(rt, keeper)
 }
 
-fn fill_through<S: Alter + Drop>(rt: &HostRuntime, conn: Connection<S>) -> Result<Done<S, ()>> {
-    let mut keeper = keeper_of(conn)?;
-    let filled = fill_keeper(rt, &mut keeper);
-    Ok((keeper.into_connection(), filled))
+// Fills the disk.
+#[derive(Drop)]
+struct FullDisk;
+
+impl Work for FullDisk {
+    type Output = ();
+
+    fn over<S: Alter + Drop>(self, rt: &HostRuntime, conn: Connection<S>) -> Result<Done<S, ()>> {
+        let mut keeper = keeper_of(conn)?;
+        let filled = fill_keeper(rt, &mut keeper);
+        Ok((keeper.into_connection(), filled))
+    }
 }
 
 /// Fills the disk of a file, and closes the file if that is possible.
 pub(crate) fn fill(rt: &HostRuntime, path: &str) -> Result<()> {
-    let (conn, filled) = fill_through(rt, open(rt, path)?)?;
-    let closed = close(conn).is_ok();
-    filled?;
+    let used = use_file(rt, path, None, FullDisk)?;
+    let closed = used.closed.is_ok();
+    used.value?;
     println!(rt; "closed {closed}")?;
     Ok(())
 }

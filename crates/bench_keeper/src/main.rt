@@ -56,32 +56,31 @@ fn print_rows(rt: &HostRuntime, path: &str) -> Result<()> {
     Ok(())
 }
 
+fn run(rt: &HostRuntime, words: &[&str]) -> Result<()> {
+    match words {
+        [] => check(rt),
+        ["rows", path] => print_rows(rt, path),
+        ["open", path] => timing::open(rt, path),
+        ["load", path] => timing::load(rt, path),
+        ["fill", path] => filling::fill(rt, path),
+        ["book", path] => books::time_opening(rt, path),
+        ["store", path, count] => books::fill(rt, path, count.parse::<u64>()?),
+        ["time", path, count] => timing::all(rt, path, count.parse::<u64>()?),
+        ["settle", path, first, count] => {
+            books::time_settles(rt, path, first.parse::<u64>()?, count.parse::<u64>()?)
+        }
+        ["commit", path, first, count] => {
+            books::time_commits(rt, path, first.parse::<u64>()?, count.parse::<u64>()?)
+        }
+        _ => bail!(
+            "open, load, rows, fill or book PATH; time or store PATH COUNT; settle or commit PATH SERIAL COUNT"
+        ),
+    }
+}
+
 fn main(rt: HostRuntime) -> Result<()> {
-    let mut words = env::args(&rt)?.skip(1);
-    let Some(mode) = words.next() else {
-        return check(&rt);
-    };
-    let Some(path) = words.next() else {
-        bail!("which file?");
-    };
-    let more = (words.next(), words.next());
-    if let (Some(first), Some(count)) = &more {
-        let first = first.as_str().parse::<u64>()?;
-        let count = count.as_str().parse::<u64>()?;
-        return match mode.as_str() {
-            "settle" => books::time_settles(&rt, path.as_str(), first, count),
-            "commit" => books::time_commits(&rt, path.as_str(), first, count),
-            _ => bail!("settle or commit PATH SERIAL COUNT"),
-        };
-    }
-    match (mode.as_str(), more.0) {
-        ("rows", None) => print_rows(&rt, path.as_str()),
-        ("open", None) => timing::open(&rt, path.as_str()),
-        ("load", None) => timing::load(&rt, path.as_str()),
-        ("fill", None) => filling::fill(&rt, path.as_str()),
-        ("book", None) => books::time_opening(&rt, path.as_str()),
-        ("store", Some(count)) => books::fill(&rt, path.as_str(), count.as_str().parse::<u64>()?),
-        ("time", Some(count)) => timing::all(&rt, path.as_str(), count.as_str().parse::<u64>()?),
-        _ => bail!("time or store PATH COUNT, or open, load, rows, fill or book PATH"),
-    }
+    let alloc = rt.alloc();
+    let words: Vec<String> = env::args(&rt)?.skip(1).collect(alloc)?;
+    let words: Vec<&str> = words.iter().map(|word| word.as_str()).collect(alloc)?;
+    run(&rt, &words)
 }

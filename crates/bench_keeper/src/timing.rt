@@ -1,9 +1,9 @@
 // Times of commits, of an opening and of a load, in nanoseconds.
-use crate::files::{self, Done, close_after, commit, keeper_of, report};
+use crate::files::{self, Done, Nothing, Work, commit, keeper_of, over_file, report};
 use crate::made::puts;
 use anyhow::Result;
 use sat_base::Keeper;
-use sqlite::{Alter, Connection, File, FileStore};
+use sqlite::{Alter, Connection};
 use std::time::Instant;
 
 /// The changes of one commit while a file is filled.
@@ -42,14 +42,20 @@ fn time_all<K: Keeper>(rt: &HostRuntime, keeper: &mut K, count: u64) -> Result<(
     Ok(())
 }
 
-fn time_commits<S: Alter + Drop>(
-    rt: &HostRuntime,
-    conn: Connection<S>,
+// Commits to a file that is filled with so many rows.
+#[derive(Drop)]
+struct Commits {
     count: u64,
-) -> Result<Done<S, ()>> {
-    let mut keeper = keeper_of(conn)?;
-    let timed = time_all(rt, &mut keeper, count);
-    Ok((keeper.into_connection(), timed))
+}
+
+impl Work for Commits {
+    type Output = ();
+
+    fn over<S: Alter + Drop>(self, rt: &HostRuntime, conn: Connection<S>) -> Result<Done<S, ()>> {
+        let mut keeper = keeper_of(conn)?;
+        let timed = time_all(rt, &mut keeper, self.count);
+        Ok((keeper.into_connection(), timed))
+    }
 }
 
 fn time_rows<K: Keeper>(rt: &HostRuntime, keeper: &mut K) -> Result<()> {
@@ -61,32 +67,39 @@ fn time_rows<K: Keeper>(rt: &HostRuntime, keeper: &mut K) -> Result<()> {
     Ok(())
 }
 
-fn time_load<S: Alter + Drop>(rt: &HostRuntime, conn: Connection<S>) -> Result<Done<S, ()>> {
-    let mut keeper = keeper_of(conn)?;
-    let timed = time_rows(rt, &mut keeper);
-    Ok((keeper.into_connection(), timed))
+// A load.
+#[derive(Drop)]
+struct Loads;
+
+impl Work for Loads {
+    type Output = ();
+
+    fn over<S: Alter + Drop>(self, rt: &HostRuntime, conn: Connection<S>) -> Result<Done<S, ()>> {
+        let mut keeper = keeper_of(conn)?;
+        let timed = time_rows(rt, &mut keeper);
+        Ok((keeper.into_connection(), timed))
+    }
 }
 
-fn time_open(rt: &HostRuntime, path: &str) -> Result<Done<FileStore<File>, ()>> {
-    let start = Instant::now(rt)?;
-    let conn = files::open(rt, path)?;
-    Ok((conn, report(rt, "open", start)))
+// Works over a file whose opening is timed.
+fn time_open<W: Work>(rt: &HostRuntime, path: &str, work: W) -> Result<W::Output> {
+    let used = files::use_file(rt, path, Some("open"), work)?;
+    used.closed?;
+    used.value
 }
 
 /// How long an opening takes.
 pub(crate) fn open(rt: &HostRuntime, path: &str) -> Result<()> {
-    close_after(time_open(rt, path)?)
+    time_open(rt, path, Nothing)
 }
 
 /// How long an opening and a load take.
 pub(crate) fn load(rt: &HostRuntime, path: &str) -> Result<()> {
-    let (conn, told) = time_open(rt, path)?;
-    close_after(time_load(rt, conn)?)?;
-    told
+    time_open(rt, path, Loads)
 }
 
 /// How long commits to a file take, which is filled with so many rows, and then the opening and a load.
 pub(crate) fn all(rt: &HostRuntime, path: &str, count: u64) -> Result<()> {
-    close_after(time_commits(rt, files::open(rt, path)?, count)?)?;
+    over_file(rt, path, Commits { count })?;
     load(rt, path)
 }

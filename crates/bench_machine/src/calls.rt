@@ -8,7 +8,7 @@ use anyhow::{Result, bail};
 use audit_core::Checked;
 use order_limits::{Action, Keys, Limit, Order, read_order};
 use sat_base::{Items, NodeId, SegId, Serial};
-use sat_machine::Call;
+use sat_machine::{Call, Reply};
 use std::alloc::Global;
 use std::time::{Clock, Instant};
 use trial_core::Trial;
@@ -97,17 +97,23 @@ pub(crate) struct Answer {
     pub spent: u128,
 }
 
-/// Asks a call.
+// Whether a reply accepts its call, and its check sum.
+fn told(reply: Reply) -> (bool, u64) {
+    (fold::is_accepted(&reply), fold::reply(fold::EMPTY, &reply))
+}
+
+/// Asks a call. Nothing ends the function while there is a call or a reply, since to prove how these are let go takes long.
 pub(crate) fn timed(clock: &impl Clock, trial: &mut Trial, call: Call) -> Result<Answer>
     requires { IsWellFormed trial.old call }
 {
-    let start = Instant::now(clock)?;
-    let reply = trial.take(call)?;
-    let spent = start.elapsed(clock)?.as_nanos();
+    let start = Instant::now(clock);
+    let reply = trial.take(call);
+    let spent = start.map(|start| start.elapsed(clock));
+    let (accepted, sum) = reply.map(told)?;
     Ok(Answer {
-        accepted: fold::is_accepted(&reply),
-        sum: fold::reply(fold::EMPTY, &reply),
-        spent,
+        accepted,
+        sum,
+        spent: spent??.as_nanos(),
     })
 }
 

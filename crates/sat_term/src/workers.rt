@@ -88,7 +88,7 @@ fn work_posts<
     work_lanes(rt, alloc, desk, pass, keys, posts, gate, sheet)
 }
 
-// Works all posts and kits at once. Where no thread is to be had they are worked one after another.
+// Works all posts and kits at once. Where no thread is to be had the lanes are worked, and then the kits.
 pub(crate) fn work_all<
     K: Keeper + Send,
     L: Lane,
@@ -139,13 +139,9 @@ pub(crate) fn work_all<
     let tally_number = for_tally.number();
     let repair_number = for_repair.number();
     let audit_number = for_audit.number();
-    let (lanes, worked) = join(
+    // Where no thread is to be had the second closure comes first: the lanes, since rounds end with the stop that they take.
+    let (worked, lanes) = join(
         rt,
-        move || -> LanesWorked<K, L, T, W>
-            requires { ((pass.desk ≡ desk.now) × IsSome pass.base) × (2 ^ 16 ≤ pass.spare) × (length posts.items ≤ 16) × IsBlank (length posts.items) sheet }
-            ensures filled { IsFilled (length posts.items) sheet result.sheet }
-            ensures done { LanesDone keys.entry.now desk.entry.now.term pass (map (post_view L.about T.coming W.left W.faults) posts.items) result.pass (map (post_view L.about T.coming W.left W.faults) result.posts.items) result.sheet }
-        { work_posts(rt, alloc, desk, pass, keys, posts, gate, sheet) },
         move || -> KitsWorked<K, A, B, C>
             requires { ((for_audit.desk ≡ desk.now) × IsSome for_audit.base) × ((for_repair.desk ≡ desk.now) × IsSome for_repair.base) × ((for_tally.desk ≡ desk.now) × IsSome for_tally.base)
                 × A.fits (opening_of for_audit.base) kits.audit × B.fits (opening_of for_repair.base) kits.repair × C.fits (opening_of for_tally.base) kits.tally }
@@ -157,6 +153,11 @@ pub(crate) fn work_all<
                 rt, alloc, desk, for_audit, for_repair, for_tally, gate, kits,
             )
         },
+        move || -> LanesWorked<K, L, T, W>
+            requires { ((pass.desk ≡ desk.now) × IsSome pass.base) × (2 ^ 16 ≤ pass.spare) × (length posts.items ≤ 16) × IsBlank (length posts.items) sheet }
+            ensures filled { IsFilled (length posts.items) sheet result.sheet }
+            ensures done { LanesDone keys.entry.now desk.entry.now.term pass (map (post_view L.about T.coming W.left W.faults) posts.items) result.pass (map (post_view L.about T.coming W.left W.faults) result.posts.items) result.sheet }
+        { work_posts(rt, alloc, desk, pass, keys, posts, gate, sheet) },
     );
     let LanesWorked { pass, posts, sheet } = lanes;
     let KitsWorked {

@@ -3,16 +3,18 @@
 //!
 //! - `store` begins with an empty keeper and no lanes. `row KIND ID BODY` puts a row into the keeper, in hexadecimal digits.
 //! - `fail keeper NUMBERS` and `fail console NUMBERS` say which of their calls are to fail in the next run, from 1.
+//!   `input TEXT` is what the console has to read.
 //! - `lane NUMBERS` adds a lane, whose waits of these numbers fail. `link NUMBERS TEXT` adds a connection to it with this
-//!   input, whose calls of these numbers fail, and `links COUNT TEXT` so many. `moments NUMBERS` are the moments of its clock,
-//!   `words COUNT WORD NUMBERS` its random words: so often this one, of which the draws of these numbers fail. Without a
-//!   lane, both are those of `audit`, from which `init` draws too.
+//!   input, whose calls of these numbers fail, `links COUNT TEXT` so many, and `fronts TEXT` one for each byte of the text,
+//!   before which its input ends. `moments NUMBERS` are the moments of its clock, `words COUNT WORD NUMBERS` its random
+//!   words: so often this one, of which the draws of these numbers fail. Without a lane, both are those of `audit`, from
+//!   which `init` draws too.
 //! - `worker NAME TICKS NUMBERS` gives a worker of rounds, `audit`, `repair` or `tally`, so many ticks, and its asks of these
 //!   numbers no answer; the moments and words that follow are its own. `holds NAME NODE SEGMENT INDEX HEX` has its nodes hold
 //!   a piece.
 //! - `hold POINT POINT` holds whoever comes to the first point of the gate until the second was passed: `read:LANE`,
 //!   `sent:LANE`, `audit` or `repair`.
-//! - `run WORDS` runs the command over all this, with nothing on its input. It tells the status, what was written on the
+//! - `run WORDS` runs the command over all this. It tells the status, what was written on the
 //!   console, of each lane its sessions and what each connection was told, of each worker of rounds how its rounds ended and
 //!   the places of their entries, and whether the gate held for too long. What is the same several times is told once, with
 //!   the number of times. The next run has the same keeper.
@@ -25,6 +27,7 @@
 //! stored input and output. Nothing is promised beyond the contract of `satellite`.
 #![tactic(auto)]
 
+mod ended;
 mod lane;
 mod plans;
 mod running;

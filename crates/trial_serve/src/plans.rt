@@ -6,6 +6,7 @@ use sat_base::{
 };
 use satellite_cli::{Post, World};
 use std::alloc::Global;
+use trial_lines::{LineErr, bytes_of};
 
 /// A clock's moments, and random words of which the draws of some numbers fail.
 #[derive(Drop)]
@@ -32,6 +33,47 @@ pub struct LanePlan {
     pub links: Vec<MemLink>,
     pub failing: Vec<u64>,
     pub source: Source,
+}
+
+impl LanePlan {
+    /// No connections.
+    pub fn new(alloc: Global, failing: Vec<u64>) -> Self {
+        LanePlan {
+            links: Vec::new(alloc),
+            failing,
+            source: Source::new(alloc),
+        }
+    }
+
+    /// Adds a connection with this input, whose calls of these numbers fail.
+    pub fn add_link(
+        &mut self,
+        alloc: Global,
+        text: &str,
+        failing: Vec<u64>,
+    ) -> Result<(), LineErr> {
+        let input = bytes_of(alloc, text)?;
+        Ok(self.links.push(MemLink::of(alloc, input, failing))?)
+    }
+
+    /// Adds so many connections with this input.
+    pub fn add_links(&mut self, alloc: Global, count: u64, text: &str) -> Result<(), LineErr> {
+        for _ in 0..count {
+            self.add_link(alloc, text, Vec::new(alloc))?;
+        }
+        Ok(())
+    }
+
+    /// Adds a connection for each byte of this input, which ends before it.
+    pub fn add_fronts(&mut self, alloc: Global, text: &str) -> Result<(), LineErr> {
+        let whole = bytes_of(alloc, text)?;
+        for end in 0..whole.len() {
+            let mut input = Vec::new(alloc);
+            input.extend_from_slice(&whole[..end])?;
+            self.links.push(MemLink::of(alloc, input, Vec::new(alloc)))?;
+        }
+        Ok(())
+    }
 }
 
 /// The devices of a run in memory.

@@ -1,18 +1,15 @@
 // The devices of the next run.
+use crate::ended::MemEnded;
 use crate::plans::{LanePlan, MemWorld, Source, keeper_of, post};
-use crate::running::{line_of, point, run_over};
-use crate::telling::{RunTold, told_run};
+use crate::running::{line_of, point};
 use crate::workers::{Worker, Workers};
-use sat_base::{HoldGate, KeeperMem, MemConsole, MemLink, NoMemory, Point, Row};
-use satellite_cli::{Ended, World};
+use sat_base::{HoldGate, KeeperMem, MemConsole, NoMemory, Point, Row};
+use satellite_cli::World;
 use std::alloc::Global;
 use std::mem;
 use std::sync::Wait;
 use std::thread::Threads;
 use trial_lines::{Fields, LineErr, bytes_of, row, told_row};
-
-// The most lanes of a run.
-const LANES: usize = 16;
 
 // A point to which nobody comes.
 const NOWHERE: Point = Point::SessionRead { lane: u16::MAX };
@@ -22,6 +19,7 @@ const NOWHERE: Point = Point::SessionRead { lane: u16::MAX };
 pub struct Stage {
     alloc: Global,
     rows: Vec<Row>,
+    input: Vec<u8>,
     keeper_failing: Vec<u64>,
     console_failing: Vec<u64>,
     workers: Workers,
@@ -39,11 +37,12 @@ enum Drawer {
 }
 
 impl Stage {
-    /// No rows and no lanes.
+    /// No rows, no input and no lanes.
     pub fn new(alloc: Global) -> Self {
         Stage {
             alloc,
             rows: Vec::new(alloc),
+            input: Vec::new(alloc),
             keeper_failing: Vec::new(alloc),
             console_failing: Vec::new(alloc),
             workers: Workers::new(alloc),
@@ -97,10 +96,13 @@ impl Stage {
                 let row = row(self.alloc, &mut fields)?;
                 Ok(self.rows.push(row)?)
             }
+            "input" => {
+                self.input = bytes_of(self.alloc, fields.rest())?;
+                Ok(())
+            }
             "fail" => self.fail(&mut fields),
             "lane" => self.add_lane(&mut fields),
-            "link" => self.add_link(&mut fields),
-            "links" => self.add_links(&mut fields),
+            "link" | "links" | "fronts" => self.add_links(word, &mut fields),
             "moments" => {
                 let moments = fields.numbers(self.alloc)?;
                 self.source()?.moments = moments;
@@ -161,37 +163,25 @@ impl Stage {
         let failing = fields.numbers(self.alloc)?;
         fields.end()?;
         self.drawer = Drawer::LastLane;
-        Ok(
-            self.lanes.push(LanePlan {
-                links: Vec::new(self.alloc),
-                failing,
-                source: Source::new(self.alloc),
-            })?,
-        )
+        Ok(self.lanes.push(LanePlan::new(self.alloc, failing))?)
     }
 
-    fn add_link(&mut self, fields: &mut Fields<'_>) -> Result<(), LineErr> {
-        let failing = fields.numbers(self.alloc)?;
-        let input = bytes_of(self.alloc, fields.rest())?;
-        let link = MemLink::of(self.alloc, input, failing);
-        match self.lanes.last_mut() {
-            Some(lane) => Ok(lane.links.push(link)?),
-            None => Err(LineErr::Bad),
-        }
-    }
-
-    fn add_links(&mut self, fields: &mut Fields<'_>) -> Result<(), LineErr> {
-        let count: u64 = fields.number()?;
-        let text = fields.rest();
+    fn add_links(&mut self, word: &str, fields: &mut Fields<'_>) -> Result<(), LineErr> {
+        let alloc = self.alloc;
         let Some(lane) = self.lanes.last_mut() else {
             return Err(LineErr::Bad);
         };
-        for _ in 0..count {
-            let input = bytes_of(self.alloc, text)?;
-            lane.links
-                .push(MemLink::of(self.alloc, input, Vec::new(self.alloc)))?;
+        match word {
+            "link" => {
+                let failing = fields.numbers(alloc)?;
+                lane.add_link(alloc, fields.rest(), failing)
+            }
+            "links" => {
+                let count = fields.number()?;
+                lane.add_links(alloc, count, fields.rest())
+            }
+            _ => lane.add_fronts(alloc, fields.rest()),
         }
-        Ok(())
     }
 
     fn note_words(&mut self, fields: &mut Fields<'_>) -> Result<(), LineErr> {
@@ -212,6 +202,7 @@ impl Stage {
         let Stage {
             alloc: _,
             rows,
+            input,
             keeper_failing,
             console_failing,
             workers,
@@ -230,7 +221,7 @@ impl Stage {
             posts.push(post(alloc, plan))?;
         }
         Ok(World {
-            console: MemConsole::of(alloc, Vec::new(alloc), console_failing),
+            console: MemConsole::of(alloc, input, console_failing),
             keeper: keeper_of(alloc, rows, keeper_failing)?,
             posts,
             audit: audit.kit(alloc),
@@ -249,28 +240,9 @@ impl Stage {
     ) -> Result<String, LineErr> {
         let line = line_of(self.alloc, words)?;
         let world = self.world()?;
-        if world.posts.len() > LANES {
-            return Err(LineErr::Bad);
-        }
-        let ended = run_over(rt, self.alloc, &line, world);
-        let Ended {
-            status,
-            world,
-            term,
-            drilled: _,
-        } = ended;
-        let text = told_run(
-            self.alloc,
-            &RunTold {
-                status,
-                console: world.console.written(),
-                posts: &world.posts,
-                late: world.gate.ran_out(),
-                places,
-            },
-            &term,
-        )?;
-        self.keep(world.keeper)?;
+        let ended = MemEnded::of(rt, self.alloc, &line, world)?;
+        let text = ended.told(self.alloc, places)?;
+        self.keep(ended.into_keeper(self.alloc))?;
         Ok(text)
     }
 

@@ -24,6 +24,11 @@ pub enum Asked {
     Answered(usize),
 }
 
+// Whether a reply is an answer, and the call isn't lost.
+fn is_answer(reply: Reply) -> bool {
+    !matches!(reply, Reply::StoreFault { .. } | Reply::NoMemory)
+}
+
 fn ask<K: Keeper>(
     alloc: Global,
     shelf: &mut Shelf<K>,
@@ -33,11 +38,13 @@ fn ask<K: Keeper>(
     let mut answered = 0usize;
     for line in calls {
         let call = call(alloc, keys, &mut Fields::of_line(line, 0))?;
-        match shelf.ask(call) {
-            Some(Reply::StoreFault { .. } | Reply::NoMemory) => break,
-            Some(_) => answered = answered.saturating_add(1),
-            None => return Err(LineErr::Bad),
+        let Some(reply) = shelf.ask(call) else {
+            return Err(LineErr::Bad);
+        };
+        if !is_answer(reply) {
+            break;
         }
+        answered = answered.saturating_add(1);
     }
     Ok(Asked::Answered(answered))
 }

@@ -6,6 +6,7 @@ use sat_base::{Change, Committed, Items, Keeper, Loaded, Row};
 use sqlite::{Alter, Connection, FileStore, Files, Options};
 use sqlite_disk::{Crash, Disk, Fuse, Memory};
 use std::alloc::Global;
+use trial_lines::LineErr;
 
 /// A disk that fails from some call on.
 pub type Fused = Fuse<Memory>;
@@ -33,7 +34,44 @@ pub fn connect<D: Disk + Drop>(
     }
 }
 
-// What is called of a keeper stands in functions over any store, which prove faster than over files.
+/// What is done with a connection, which is given back unless a keeper is refused. The prover looks into the type of a
+/// connection to files once, in `over_files`, and not for each work.
+pub trait Work: Drop {
+    type Output: Drop;
+
+    fn over<S: Alter + Drop>(
+        self,
+        alloc: Global,
+        conn: Connection<S>,
+    ) -> Result<Option<(Connection<S>, Self::Output)>, LineErr>
+        requires { conn.in_transaction ≡ false };
+}
+
+/// What came of work over files, and what is left of these.
+pub enum Worked<D: Disk, T> {
+    Done(Files<D>, T),
+    /// No connection was opened.
+    Unopened(Files<D>),
+    /// A keeper was refused, or the files may not be used.
+    Lost,
+}
+
+/// Works over files, and lets go of them without closing the database.
+pub fn over_files<D: Disk + Drop, W: Work>(
+    alloc: Global,
+    files: Files<D>,
+    work: W,
+) -> Result<Worked<D, W::Output>, LineErr> {
+    let conn = match connect(alloc, files) {
+        Ok(conn) => conn,
+        Err(Some(files)) => return Ok(Worked::Unopened(files)),
+        Err(None) => return Ok(Worked::Lost),
+    };
+    match work.over(alloc, conn)? {
+        Some((conn, output)) => Ok(Worked::Done(conn.into_store().close(), output)),
+        None => Ok(Worked::Lost),
+    }
+}
 
 // Puts rows into a new database.
 fn put<S: Alter + Drop>(
@@ -52,13 +90,9 @@ fn put<S: Alter + Drop>(
     }
 }
 
-// Closed files of these rows.
-fn filled(alloc: Global, changes: &[Change]) -> Option<Files<Memory>> {
-    let empty = Files {
-        log: Memory::new(alloc),
-        db: Memory::new(alloc),
-    };
-    let conn = put(alloc, connect(alloc, empty).ok()?, changes)?;
+// The files, closed, with these rows.
+fn filled<D: Disk + Drop>(alloc: Global, files: Files<D>, changes: &[Change]) -> Option<Files<D>> {
+    let conn = put(alloc, connect(alloc, files).ok()?, changes)?;
     conn.close_files().ok()
 }
 
@@ -69,7 +103,11 @@ pub fn fused(
     stopping: Stopping,
     calls: u64,
 ) -> Option<Files<Fused>> {
-    let Files { log, db } = filled(alloc, changes)?;
+    let empty = Files {
+        log: Memory::new(alloc),
+        db: Memory::new(alloc),
+    };
+    let Files { log, db } = filled(alloc, empty, changes)?;
     let (log_calls, db_calls) = match stopping {
         Stopping::Log => (calls, u64::MAX),
         Stopping::File => (u64::MAX, calls),

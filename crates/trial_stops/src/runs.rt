@@ -1,8 +1,9 @@
 // Runs over files that stop, and what is found when they are opened again.
 use crate::asking::{Asked, Course, ask_file};
-use crate::files::{Fused, Stopping, come_back, connect, fused, rows_of};
+use crate::files::{Stopping, Work, Worked, come_back, fused, over_files, rows_of};
+use order_limits::Keys;
 use sat_base::{Change, Items, Row};
-use sqlite::Files;
+use sqlite::{Alter, Connection};
 use std::alloc::Global;
 use trial_lines::LineErr;
 
@@ -27,40 +28,51 @@ pub enum Outcome {
     Wrong(&'static str),
 }
 
-// What the calls came to over the files, and what is left of these. A refused keeper leaves none.
-fn first_run(
-    alloc: Global,
-    case: &Case<'_>,
-    files: Files<Fused>,
-) -> Result<Option<(Files<Fused>, Asked)>, LineErr> {
-    let conn = match connect(alloc, files) {
-        Ok(conn) => conn,
-        Err(left) => return Ok(left.map(|files| (files, Asked::Unopened))),
-    };
-    match ask_file(alloc, conn, &case.course.keys, case.calls)? {
-        Some((conn, asked)) => Ok(Some((conn.into_store().close(), asked))),
-        None => Ok(None),
+// The calls are asked.
+#[derive(Drop)]
+struct First<'a> {
+    keys: &'a Keys,
+    calls: &'a [&'a str],
+}
+
+impl Work for First<'_> {
+    type Output = Asked;
+
+    fn over<S: Alter + Drop>(
+        self,
+        alloc: Global,
+        conn: Connection<S>,
+    ) -> Result<Option<(Connection<S>, Asked)>, LineErr> {
+        ask_file(alloc, conn, self.keys, self.calls)
     }
 }
 
-// The rows of files, and those once the calls from this one on are asked again.
-fn second_run(
-    alloc: Global,
-    case: &Case<'_>,
-    files: Files<Fused>,
-    from: usize,
-) -> Result<Option<(Items<Row>, Items<Row>)>, LineErr> {
-    let Ok(conn) = connect(alloc, files) else {
-        return Ok(None);
-    };
-    let Some((conn, found)) = rows_of(alloc, conn) else {
-        return Ok(None);
-    };
-    let again = case.calls.get(from..).unwrap_or(&[]);
-    let Some((conn, _)) = ask_file(alloc, conn, &case.course.keys, again)? else {
-        return Ok(None);
-    };
-    Ok(rows_of(alloc, conn).map(|(_, rows)| (found, rows)))
+// The rows are read, and once these calls were asked again.
+#[derive(Drop)]
+struct Second<'a> {
+    keys: &'a Keys,
+    calls: &'a [&'a str],
+}
+
+impl Work for Second<'_> {
+    type Output = (Items<Row>, Items<Row>);
+
+    fn over<S: Alter + Drop>(
+        self,
+        alloc: Global,
+        conn: Connection<S>,
+    ) -> Result<Option<(Connection<S>, (Items<Row>, Items<Row>))>, LineErr> {
+        let Some((conn, found)) = rows_of(alloc, conn) else {
+            return Ok(None);
+        };
+        let Some((conn, _)) = ask_file(alloc, conn, self.keys, self.calls)? else {
+            return Ok(None);
+        };
+        match rows_of(alloc, conn) {
+            Some((conn, rows)) => Ok(Some((conn, (found, rows)))),
+            None => Ok(None),
+        }
+    }
 }
 
 // Whether what was found goes with what was answered.
@@ -89,20 +101,24 @@ pub fn run(
     alloc: Global,
     case: &Case<'_>,
     stopping: Stopping,
-    calls: u64,
+    disk_calls: u64,
 ) -> Result<Outcome, LineErr> {
-    let Some(files) = fused(alloc, case.changes, stopping, calls) else {
+    let Some(files) = fused(alloc, case.changes, stopping, disk_calls) else {
         return Ok(Outcome::Wrong("not set up"));
     };
-    let Some((files, asked)) = first_run(alloc, case, files)? else {
-        return Ok(Outcome::Wrong("a keeper was refused"));
+    let (keys, calls) = (&case.course.keys, case.calls);
+    let (files, asked) = match over_files(alloc, files, First { keys, calls })? {
+        Worked::Done(files, asked) => (files, asked),
+        Worked::Unopened(files) => (files, Asked::Unopened),
+        Worked::Lost => return Ok(Outcome::Wrong("a keeper was refused")),
     };
     let from = match asked {
         Asked::Answered(answered) => answered,
         Asked::Unopened => 0,
     };
-    match second_run(alloc, case, come_back(files), from)? {
-        Some((found, at_last)) => Ok(verdict(case, asked, &found, &at_last)),
-        None => Ok(Outcome::Wrong("not opened again")),
+    let calls = calls.get(from..).unwrap_or(&[]);
+    match over_files(alloc, come_back(files), Second { keys, calls })? {
+        Worked::Done(_, (found, at_last)) => Ok(verdict(case, asked, &found, &at_last)),
+        Worked::Unopened(_) | Worked::Lost => Ok(Outcome::Wrong("not opened again")),
     }
 }

@@ -4,7 +4,8 @@ use denote.Param.Send.{IsSend, IsSync, sendable}
 use Rattle.std.proofs.Crossing.{crosses}
 use Rattle.turnstile.proofs.desk.Desk.TheSendSync as desk_is
 use Rattle.turnstile.proofs.pass.Pass.TheSendSync as pass_is
-use Rattle.sat_term.proofs.Crossing.{book_send, keys_sync, posts_send, sheet_send}
+use Rattle.sat_term.proofs.Crossing.{book_send}
+use Rattle.sat_term.proofs.crew.Kits.TheSendSync as kits
 use Rattle.sat_book.specs.Book.{opening_of}
 use Rattle.sat_book.specs.declared.opening.Origin.{Origin}
 use Rattle.sat_rounds.specs.Rounds.{RoundsRan}
@@ -13,26 +14,26 @@ use Rattle.sat_term.proofs.Gathering.{all_done}
 use Rattle.sat_term.proofs.Rows.{three_more}
 use Rattle.sat_term.proofs.workers.work_all.Goals as goal
 
-pub join-lanes-requires-send-F : goal.join-lanes-requires-send-F
-join-lanes-requires-send-F g c κs within =
+pub join-worked-requires-send-F : goal.join-worked-requires-send-F
+join-worked-requires-send-F g c κs within =
     let k : IsSend (param 0 g.row.K) = search rules in
-    let l : IsSend (param 1 g.row.L) = search rules in
-    let m : IsSend (param 2 g.row.T) = search rules in
-    let w : IsSend (param 3 g.row.W) = search rules in
-    let a : IsSync (param 7 g.row.G) = search rules in
+    let a : IsSend (param 4 g.row.A) = search rules in
+    let b : IsSend (param 5 g.row.B) = search rules in
+    let d : IsSend (param 6 g.row.C) = search rules in
+    let h : IsSync (param 7 g.row.G) = search rules in
     let r : IsSync (param 8 g.row.R) = search rules in
-    search (book_send, desk_is.the_sync, pass_is.the_send, keys_sync, posts_send, sheet_send, crosses, sendable) depth 20
+    search (book_send, desk_is.the_sync, pass_is.the_send, kits.the_send, crosses, sendable) depth 20
 
 pub returns : goal.returns
 returns g c =
-    let done = c.join-lanes.ensures.first.1 in
-    let rounds = c.join-lanes.ensures.second in
+    let done = c.join-worked.ensures.second.1 in
+    let rounds = c.join-worked.ensures.first in
     let p = c.part-pass.ensures.parted in
     let b = c.part-pass.ensures.bases in
-    let audit = subst (λ (x : Option (Origin g.row.K.Denot)). RoundsRan (g.A.RoundKit.tells (opening_of x)) (g.A.RoundKit.view c.args.crew.kits.audit) c.part-pass.result.audit c.join-lanes.result.1.audit.rounds.items c.join-lanes.result.1.audit.end (g.A.RoundKit.view c.join-lanes.result.1.audit.kit) c.join-lanes.result.1.audit.pass) b.0 rounds.0 in
-    let repair = subst (λ (x : Option (Origin g.row.K.Denot)). RoundsRan (g.B.RoundKit.tells (opening_of x)) (g.B.RoundKit.view c.args.crew.kits.repair) c.part-pass.result.repair c.join-lanes.result.1.repair.rounds.items c.join-lanes.result.1.repair.end (g.B.RoundKit.view c.join-lanes.result.1.repair.kit) c.join-lanes.result.1.repair.pass) b.1 rounds.1.0 in
-    let tally = subst (λ (x : Option (Origin g.row.K.Denot)). RoundsRan (g.C.RoundKit.tells (opening_of x)) (g.C.RoundKit.view c.args.crew.kits.tally) c.part-pass.result.tally c.join-lanes.result.1.tally.rounds.items c.join-lanes.result.1.tally.end (g.C.RoundKit.view c.join-lanes.result.1.tally.kit) c.join-lanes.result.1.tally.pass) b.2 rounds.1.1 in
-    let nums = three_more c.join-lanes.result.0.sheet.numbers.items _ _ _ c.number-audit_number.result c.number-repair_number.result c.number-tally_number.result c.push_reserved.ensures.items c.push_reserved-2.ensures.items c.push_reserved-3.ensures.items in
+    let audit = subst (λ (x : Option (Origin g.row.K.Denot)). RoundsRan (g.A.RoundKit.tells (opening_of x)) (g.A.RoundKit.view c.args.crew.kits.audit) c.part-pass.result.audit c.join-worked.result.0.audit.rounds.items c.join-worked.result.0.audit.end (g.A.RoundKit.view c.join-worked.result.0.audit.kit) c.join-worked.result.0.audit.pass) b.0 rounds.0 in
+    let repair = subst (λ (x : Option (Origin g.row.K.Denot)). RoundsRan (g.B.RoundKit.tells (opening_of x)) (g.B.RoundKit.view c.args.crew.kits.repair) c.part-pass.result.repair c.join-worked.result.0.repair.rounds.items c.join-worked.result.0.repair.end (g.B.RoundKit.view c.join-worked.result.0.repair.kit) c.join-worked.result.0.repair.pass) b.1 rounds.1.0 in
+    let tally = subst (λ (x : Option (Origin g.row.K.Denot)). RoundsRan (g.C.RoundKit.tells (opening_of x)) (g.C.RoundKit.view c.args.crew.kits.tally) c.part-pass.result.tally c.join-worked.result.0.tally.rounds.items c.join-worked.result.0.tally.end (g.C.RoundKit.view c.join-worked.result.0.tally.kit) c.join-worked.result.0.tally.pass) b.2 rounds.1.1 in
+    let nums = three_more c.join-worked.result.1.sheet.numbers.items _ _ _ c.number-audit_number.result c.number-repair_number.result c.number-tally_number.result c.push_reserved.ensures.items c.push_reserved-2.ensures.items c.push_reserved-3.ensures.items in
     all_done (g.A.RoundKit.tells (opening_of c.args.pass.base)) (g.B.RoundKit.tells (opening_of c.args.pass.base)) (g.C.RoundKit.tells (opening_of c.args.pass.base))
     _ _ c.args.pass p.with_repair p.with_audit c.part-pass.result.lanes c.part-pass.result.tally c.part-pass.result.repair c.part-pass.result.audit _ _ _ _ _ _ _ _ _
     (kits_view g.A.RoundKit.view g.B.RoundKit.view g.C.RoundKit.view c.args.crew.kits) _ _ _ _
