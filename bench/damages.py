@@ -114,7 +114,7 @@ def contained(node=1, segment=1, index=0, stripe=0, tries=0):
     return be(4, node), be(8, segment) + be(1, index) + be(8, stripe) + bytes(32) + be(1, tries)
 
 
-# a good row of each other kind; of tallies and statements, which no call makes yet, each breaks its rule
+# a good row of each other kind; the tally and the statement break their rules
 OTHERS = {
     TALLY: (be(8, 1) + be(4, 1), be(8, 1)),
     STATEMENT: (be(4, MONTH, 1), be(4, 1) + be(1, 75) + bytes(16 * 13)),
@@ -255,6 +255,7 @@ def of_plans(cases):
     ):
         cases.broken(8, REPAIR, b"", (REPAIR, *repair(**wrong)))
     cases.broken(8, AUDIT, b"", (AUDIT, *audit(plan=2)), (REPAIR, *repair(plan=2)))
+    cases.broken(8, REPAIR, b"", (AUDIT, *audit()), (REPAIR, *repair(plan=2)))
     for wrong in ({"segment": 2}, {"index": 1}, {"stripe": 4}, {"tries": 3}):
         cases.broken(9, CONTAINMENT, be(4, 1), (CONTAINMENT, *contained(**wrong)))
     cases.broken(9, CONTAINMENT, be(4, 1), (NODE, *node(1, status=1)), (CONTAINMENT, *contained()))
@@ -275,6 +276,7 @@ def of_plans(cases):
     cases.broken(12, LEFT, be(4, 5), (NODE, *node(5, status=3)))
     cases.broken(12, LEFT, be(4, 5), (NODE, *node(5, status=3)), (NODE, *node(6, status=3)), (LEFT, be(4, 6), be(8, NOW)))
     cases.broken(12, LEFT, be(4, 5), (NODE, *node(5, status=3)), (LEFT, be(4, 5), be(8, NOW + 1)))
+    cases.broken(12, LEFT, be(4, 6), (NODE, *node(5, status=3)), (LEFT, be(4, 5), be(8, NOW)), (NODE, *node(6, status=3)))
     cases.store("open", (NODE, *node(5, status=3)), (LEFT, be(4, 5), be(8, NOW)))
 
 

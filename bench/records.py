@@ -278,10 +278,13 @@ def of_kind(cases, kind):
         cases.row(kind, write_fields(id_fields, other), body)
     for other in (identity + b"\0", identity[:-1], b"\0" + identity, b""):
         cases.row(kind, other, body)
-    cases.say(f"# Kind {kind}: a body a byte short and a byte long, and bytes changed so that a bound is crossed")
-    for other in (b"", body[:-1], body + b"\0", b"\0" + body, body[1:]):
+    cases.say(f"# Kind {kind}: a body a byte long, and one whose first byte is gone")
+    for other in (body + b"\0", b"\0" + body, body[1:]):
         cases.row(kind, identity, other)
+    cases.say(f"# Kind {kind}: a body that is cut at each byte; each byte changed in its lowest bit, and so that a bound is crossed")
     for i in range(len(body)):
+        cases.row(kind, identity, body[:i])
+        cases.row(kind, identity, body[:i] + bytes([body[i] ^ 1]) + body[i + 1 :])
         for byte in (9, 255, 0):
             other = body[:i] + bytes([byte]) + body[i + 1 :]
             if answer(kind, identity, other) == "body":

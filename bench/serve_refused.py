@@ -2,10 +2,12 @@
 
 from serve_rounds import HALF, auditor, repairer, worker, worn_store
 from serve_texts import (
-    BEGIN, CUSTOMER, NOW, SECRET, SERVE, STOP, answer, big, contained_row, customer_key, customer_row, edge,
+    BEGIN, CAPS, CUSTOMER, NOW, SECRET, SERVE, STOP, answer, big, contained_row, customer_key, customer_row, edge,
     marks_row, node_key, node_row, operator_key, request, segment_row, settings_row, settle, settled,
     settled_row, some_store, tariff_row,
 )
+
+APRIL = 1775001600  # 2026-04-01
 
 SIX = tuple((index, index + 1) for index in range(6))
 PASSED, FAILED = dict(alpha=10500, passes=1), dict(alpha=9500, beta=1000)
@@ -130,8 +132,18 @@ def repaired_store():
     return list(rows.values())
 
 
+def refused_months(t):
+    t.say("# A close that would make more statements than there is room for.")
+    t.store([settings_row(caps=(*CAPS[:5], 1)), marks_row(), node_row(1), node_row(2), tariff_row()])
+    t.lane([request("/op/close", operator_key(), {"month": "2026-03"})], moments=[APRIL])
+    t.run(SERVE, 0, "entries 1\\n", [
+        "session 0 entered 0", "link 0 " + answer({"error": "table-full", "number": 28, "table": "statements"}, 409),
+    ])
+
+
 def refused_cases(t):
     t.say("# Every call refused once.")
     refused_requests(t)
+    refused_months(t)
     refused_devices(t)
     refused_rounds(t)

@@ -43,9 +43,9 @@ def order(serial, node, amount, limit=1000):
 
 # ---- rows
 
-def settings_row(secret=SECRET, scheme=(2, 3, 4, 6), share=256, vet=100, fresh=5, first=24314):
+def settings_row(secret=SECRET, scheme=(2, 3, 4, 6), share=256, vet=100, fresh=5, caps=CAPS, first=24314):
     body = bytes([2]) + secret + bytes(scheme) + big(share, 2) + big(vet, 2) + big(fresh, 1)
-    body += b"".join(big(cap, 4) for cap in CAPS) + big(first, 4)
+    body += b"".join(big(cap, 4) for cap in caps) + big(first, 4)
     return (1, b"", body)
 
 

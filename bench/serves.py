@@ -1,5 +1,5 @@
 #!/usr/bin/env python3
-"""Writes the stored input and output of trial_serve: runs of `init` and `serve` over devices in memory.
+"""Writes the stored input and output of trial_serve: runs of all commands over devices in memory.
 
 It knows the formats of keys, orders, rows and answers, and what follows from each case. Nothing of it was taken from the
 program. The cases of months, from `MONTHS` to `LAST`, were written by hand, and are kept as they are.
@@ -10,6 +10,8 @@ program. The cases of months, from `MONTHS` to `LAST`, were written by hand, and
 import pathlib
 import sys
 
+from serve_console import console_cases
+from serve_drills import drill_cases
 from serve_lanes import end_cases, gate_cases, init_cases, open_cases, session_cases
 from serve_refused import refused_cases
 from serve_rounds import race_cases, round_cases
@@ -29,7 +31,7 @@ def main():
     folder = pathlib.Path(sys.argv[1]) if len(sys.argv) > 1 else pathlib.Path(__file__).parent.parent / "crates" / "trial_serve"
     t = Case()
     t.say("# Written by bench/serves.py.")
-    for cases in (init_cases, open_cases, session_cases, end_cases, gate_cases, round_cases, race_cases, refused_cases):
+    for cases in (init_cases, open_cases, session_cases, end_cases, gate_cases, round_cases, race_cases, refused_cases, console_cases, drill_cases):
         t.say("")
         cases(t)
     t.say("")

@@ -19,8 +19,6 @@
 mod judging;
 mod plan;
 mod rechecking;
-#[cfg(test)]
-mod tests;
 mod verdict;
 
 pub use judging::{judge, weigh};

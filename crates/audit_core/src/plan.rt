@@ -5,7 +5,7 @@ use sat_base::{At, Fetched, Items, Moment, NoMemory, SegId, Serial};
 use std::alloc::Global;
 
 /// An audit of one stripe of a segment: which pieces are asked for their share of it.
-#[derive(Debug, PartialEq, Eq, Drop)]
+#[derive(PartialEq, Eq, Drop)]
 pub struct AuditPlan {
     /// The plan's own number.
     pub plan: u64,
@@ -39,7 +39,7 @@ impl AuditPlan {
 }
 
 /// What was heard of the piece of one index.
-#[derive(Debug, Drop)]
+#[derive(Drop)]
 pub struct Heard {
     pub index: u8,
     pub what: Fetched,

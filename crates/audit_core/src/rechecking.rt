@@ -6,7 +6,7 @@ use sat_base::{Fetched, Moment, NodeId, SegId, Serial};
 use sha2::{Digest, Sha256};
 
 /// A node that was silent in an audit, asked for the same share again.
-#[derive(Clone, Copy, Debug, PartialEq, Eq)]
+#[derive(Clone, Copy, PartialEq, Eq)]
 pub struct RecheckPlan {
     /// The plan's own number.
     pub plan: u64,
@@ -23,7 +23,7 @@ pub struct RecheckPlan {
 }
 
 /// What came of asking again.
-#[derive(Clone, Copy, Debug, PartialEq, Eq)]
+#[derive(Clone, Copy)]
 pub enum Checked {
     /// The share has the expected digest.
     Pass,

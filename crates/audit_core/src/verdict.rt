@@ -8,7 +8,7 @@ use crate::plan::AuditPlan;
 use sat_base::{Indexes, Items, Scheme, Share};
 
 /// A node that gave no answer, by the index of its piece, and the share that it owes.
-#[derive(Clone, Copy, Debug, PartialEq, Eq)]
+#[derive(Clone, Copy)]
 pub struct Silent {
     pub index: u8,
     /// The SHA-256 (FIPS 180-4) of the share, or 32 zeros where the verdict is unclear.
@@ -16,7 +16,7 @@ pub struct Silent {
 }
 
 /// Which answers to an audit were altered.
-#[derive(Debug, PartialEq, Eq, Drop)]
+#[derive(Drop)]
 pub enum Verdict {
     /// At least k + 2 answered, and all but (r - k) / 2 of the r answers are shares of one stripe. The others,
     /// by rising index, are altered.
@@ -27,7 +27,7 @@ pub enum Verdict {
 
 /// What came of an audit. Its type keeps the verdict to the answers that it holds, so that whoever holds one
 /// knows that nobody is blamed wrongly.
-#[derive(Debug, Drop)]
+#[derive(Drop)]
 pub struct Judged {
     pub scheme: Scheme,
     pub plan: AuditPlan,

@@ -1,11 +1,11 @@
 // Calls of each kind, each timed by itself.
-ghost use Rattle.std.specs.Prelude.{ℕ, ◌<◌, slice_index_or};
 ghost use Rattle.machine_step.specs.Step.{IsWellFormed};
 
 use crate::made::{AMOUNT, LEN, Size, customer_of, node_of, now, serial_at};
 use crate::{fold, upkeep};
 use anyhow::{Result, bail};
 use audit_core::Checked;
+use machine_calls::are_bytes;
 use order_limits::{Action, Keys, Limit, Order, read_order};
 use sat_base::{Items, NodeId, SegId, Serial};
 use sat_machine::{Call, Reply};
@@ -115,13 +115,6 @@ pub(crate) fn timed(clock: &impl Clock, trial: &mut Trial, call: Call) -> Result
         sum,
         spent: spent??.as_nanos(),
     })
-}
-
-// A slice of bytes is one.
-fn are_bytes(bytes: &[u8])
-    ensures { (i : ℕ) → slice_index_or bytes.now i 0 < 256 }
-{
-    let _ = bytes;
 }
 
 fn settle(

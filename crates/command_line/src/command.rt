@@ -16,7 +16,7 @@ use sat_base::{Bytes, Caps, Items, Line, Month, Rates, Scheme, limits};
 use std::alloc::Global;
 
 /// What the words ask for. A store is the name of its file.
-#[derive(Debug, PartialEq, Eq, Drop)]
+#[derive(Debug, Drop)]
 pub enum Command {
     /// Settle the orders of the input, at most `cap` of them, under a secret of 32 bytes.
     Settle {

@@ -10,7 +10,7 @@ use crate::values::{number_in, number_or_in, secret_or_none_in};
 use sat_base::{Caps, Line, Rates, Scheme, limits};
 
 /// What `init` is asked for.
-#[derive(Clone, Copy, Debug, PartialEq, Eq)]
+#[derive(Clone, Copy, Debug)]
 pub(crate) struct InitWords<'a> {
     pub store: &'a str,
     pub choices: Choices,
@@ -20,7 +20,7 @@ pub(crate) struct InitWords<'a> {
 }
 
 /// What stands beside the scheme, the rates and the caps.
-#[derive(Clone, Copy, Debug, PartialEq, Eq)]
+#[derive(Clone, Copy, Debug)]
 pub(crate) struct Choices {
     pub secret: Option<[u8; 32]>,
     pub vet: u16,

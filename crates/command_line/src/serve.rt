@@ -9,7 +9,7 @@ use crate::values::{number_in, number_or_in};
 use sat_base::Line;
 
 /// What `serve` is asked for.
-#[derive(Clone, Copy, Debug, PartialEq, Eq)]
+#[derive(Clone, Copy, Debug)]
 pub(crate) struct ServeWords<'a> {
     pub store: &'a str,
     pub port: u16,

@@ -9,7 +9,7 @@ use crate::values::month_in;
 use sat_base::{Line, Month};
 
 /// What `sheet` is asked for.
-#[derive(Clone, Copy, Debug, PartialEq, Eq)]
+#[derive(Clone, Copy, Debug)]
 pub(crate) struct SheetWords<'a> {
     pub store: &'a str,
     pub month: Month,

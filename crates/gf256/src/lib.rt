@@ -24,6 +24,3 @@ mod tables;
 pub use field::{add, field_laws, inv, mul, pow};
 pub use halves::{combine, split};
 pub use lanes::{mul_add, same};
-
-#[cfg(test)]
-mod tests;

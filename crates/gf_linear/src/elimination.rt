@@ -11,7 +11,7 @@ use crate::matrix::Matrix;
 use gf256::{add, inv, mul};
 
 /// Whether a linear system has a solution.
-#[derive(Clone, Copy, Debug, PartialEq, Eq)]
+#[derive(Clone, Copy)]
 pub enum Solved {
     /// A solution was found. It is the only one unless an unknown is free.
     One,

@@ -14,8 +14,6 @@
 mod elimination;
 mod laws;
 mod matrix;
-#[cfg(test)]
-mod tests;
 
 pub use elimination::{Solved, solve};
 pub use laws::{few_roots, one_polynomial};

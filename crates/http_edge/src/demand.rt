@@ -15,7 +15,7 @@ use order_limits::Keys;
 use sat_base::{Month, NodeId, is_numeral, value_up_to};
 
 /// What a head alone says.
-#[derive(Clone, Copy, Debug)]
+#[derive(Clone, Copy)]
 pub(crate) enum Demand {
     Refused(EdgeErr),
     /// The route, and how long the body is.

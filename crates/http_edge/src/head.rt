@@ -8,7 +8,7 @@ use httparse::{Error, Status};
 use sat_base::{Source, Taken};
 
 /// How the reading of a head ended.
-#[derive(Clone, Copy, Debug)]
+#[derive(Clone, Copy)]
 pub(crate) enum HeadEnd {
     /// A head stands at the front.
     Whole(RequestSpans),
@@ -23,7 +23,7 @@ pub(crate) enum HeadEnd {
 }
 
 /// What was read of a head.
-#[derive(Clone, Copy, Debug)]
+#[derive(Clone, Copy)]
 pub(crate) struct HeadRead {
     /// How many bytes were read.
     pub got: usize,
@@ -31,7 +31,7 @@ pub(crate) struct HeadRead {
 }
 
 // What a look at the bytes of a head says.
-#[derive(Clone, Copy, Debug)]
+#[derive(Clone, Copy)]
 enum Look {
     // A head stands at the front.
     Whole(RequestSpans),

@@ -9,7 +9,7 @@ use month_text::month_of_text;
 use sat_base::{CustomerId, Month, NodeId, SegId, cut, number};
 
 /// What a path names.
-#[derive(Clone, Copy, Debug, PartialEq, Eq)]
+#[derive(Clone, Copy)]
 pub(crate) enum Route {
     Begin {
         customer: CustomerId,

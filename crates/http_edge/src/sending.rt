@@ -5,7 +5,7 @@ ghost use Rattle.http_edge.specs.Sending.{all_sent};
 use sat_base::{Sink, write_all};
 
 /// What sending answers.
-#[derive(Clone, Copy, Debug, PartialEq, Eq)]
+#[derive(Clone, Copy)]
 pub enum Sent {
     /// All bytes were written.
     All,

@@ -2,7 +2,7 @@
 use sat_base::{Bytes, CustomerId, Indexes, Month, NodeId, Rates, SegId};
 
 /// What a request asks of the machine: a call without its moment and its random words.
-#[derive(Debug, PartialEq, Eq, Drop)]
+#[derive(Drop)]
 pub enum Wish {
     /// The operator adds a node, by its IPv4 address and the bytes that it says are free.
     AddNode {

@@ -6,7 +6,7 @@ ghost use Rattle.keeper_sqlite.specs.Answers.{refusal_of, is_fault};
 use sqlite::{Error, ErrorCode};
 
 /// Why a connection is refused.
-#[derive(Clone, Copy, Debug, PartialEq, Eq)]
+#[derive(Clone, Copy)]
 pub enum Refused {
     /// The database failed, or it isn't one that can have the table.
     Fault,

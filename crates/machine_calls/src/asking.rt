@@ -1,7 +1,7 @@
 use sat_base::{CustomerId, Moment};
 
 /// Who asks, under which number, and when: a numbered request but for what it asks.
-#[derive(Clone, Copy, Debug, PartialEq, Eq)]
+#[derive(Clone, Copy)]
 pub struct Asking {
     /// The customer, or 0 for the operator.
     pub caller: CustomerId,

@@ -4,7 +4,6 @@ use sat_base::{Bytes, CustomerId, Indexes, Moment, Month, NodeId, Rates, SegId, 
 
 /// What the machine is asked. `now` is the moment that its caller's clock gave; the machine takes no moment that is
 /// earlier than one it has taken. What changes nothing has none.
-#[derive(Debug, Drop)]
 pub enum Call {
     /// The operator adds a node, by its IPv4 address and the bytes that it says are free.
     AddNode {
@@ -128,4 +127,78 @@ pub enum Call {
     },
     /// The operator stops the machine.
     Stop,
+}
+
+// By hand, so that a call is taken apart here, and not anew wherever one is let go.
+impl Drop for Call {
+    fn drop(self) {
+        match self {
+            Call::AddNode {
+                now: _,
+                request: _,
+                addr: _,
+                port: _,
+                free: _,
+            } => {}
+            Call::AddCustomer { now: _, request: _ } => {}
+            Call::Begin {
+                now: _,
+                customer: _,
+                request: _,
+                len: _,
+                words: _,
+            } => {}
+            Call::Commit {
+                now: _,
+                customer: _,
+                request: _,
+                segment: _,
+                indexes: _,
+            } => {}
+            Call::Get {
+                now: _,
+                customer: _,
+                request: _,
+                segment: _,
+            } => {}
+            Call::Delete {
+                now: _,
+                customer: _,
+                request: _,
+                segment: _,
+            } => {}
+            Call::Settle {
+                now: _,
+                node: _,
+                bytes: _,
+            } => {}
+            Call::SetFree {
+                now: _,
+                node: _,
+                free: _,
+            } => {}
+            Call::Statement { node: _, month: _ } => {}
+            Call::PlanAudit { now: _, words: _ } => {}
+            Call::EndAudit { now: _, judged: _ } => {}
+            Call::PlanRecheck { now: _ } => {}
+            Call::EndRecheck {
+                now: _,
+                plan: _,
+                checked: _,
+            } => {}
+            Call::PlanRepair { now: _, words: _ } => {}
+            Call::EndRepair { now: _, outcome: _ } => {}
+            Call::TallyHour { now: _ } => {}
+            Call::CloseMonth { now: _, month: _ } => {}
+            Call::Exit { now: _, node: _ } => {}
+            Call::PlanExit { now: _, words: _ } => {}
+            Call::EndExit { now: _, outcome: _ } => {}
+            Call::SetRates {
+                now: _,
+                month: _,
+                rates: _,
+            } => {}
+            Call::Stop => {}
+        }
+    }
 }

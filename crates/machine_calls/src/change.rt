@@ -7,7 +7,7 @@ use settlement::SettledRow;
 use tally_payout::{Statement, Tally};
 
 /// One record that a step changes: it is put, in place of one with its key if there is one, or removed.
-#[derive(Debug, PartialEq, Eq, Drop)]
+#[derive(Drop)]
 pub enum RecChange {
     Settings(Settings),
     Marks(Marks),

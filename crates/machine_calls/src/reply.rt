@@ -8,7 +8,7 @@ use std::alloc::Global;
 use tally_payout::Statement;
 
 /// What the machine answers. Amounts are bytes.
-#[derive(Debug, PartialEq, Eq, Drop)]
+#[derive(Drop)]
 pub enum Reply {
     /// A numbered request is done, now or at an earlier time.
     Done(Done),
@@ -112,15 +112,12 @@ impl Reply {
         ensures { IfOk result (λ reply. reply ≡ self.now) }
     {
         match self {
-            Reply::Done(done) => Ok(Reply::Done(done.copy(alloc)?)),
+            Reply::Done(done) => copy_done(alloc, done),
             Reply::Settled { amount } => Ok(Reply::Settled { amount: *amount }),
             Reply::Again { amount } => Ok(Reply::Again { amount: *amount }),
             Reply::FreeSet => Ok(Reply::FreeSet),
             Reply::Statement(statement) => Ok(Reply::Statement(*statement)),
-            Reply::AuditPlanned { plan, places } => Ok(Reply::AuditPlanned {
-                plan: plan.copy(alloc)?,
-                places: places.copy(alloc)?,
-            }),
+            Reply::AuditPlanned { plan, places } => copy_audit_planned(alloc, plan, places),
             Reply::AuditEnded {
                 clear,
                 blamed,
@@ -147,11 +144,7 @@ impl Reply {
                 plan,
                 sources,
                 targets,
-            } => Ok(Reply::RepairPlanned {
-                plan: plan.copy(alloc)?,
-                sources: sources.copy(alloc)?,
-                targets: targets.copy(alloc)?,
-            }),
+            } => copy_repair_planned(alloc, plan, sources, targets),
             Reply::RepairEnded { version } => Ok(Reply::RepairEnded { version: *version }),
             Reply::Unrepaired => Ok(Reply::Unrepaired),
             Reply::Superseded { planned, now } => Ok(Reply::Superseded {
@@ -173,11 +166,7 @@ impl Reply {
                 plan,
                 sources,
                 target,
-            } => Ok(Reply::ExitPlanned {
-                plan: plan.copy(alloc)?,
-                sources: sources.copy(alloc)?,
-                target: *target,
-            }),
+            } => copy_exit_planned(alloc, plan, sources, *target),
             Reply::RatesSet { month } => Ok(Reply::RatesSet { month: *month }),
             Reply::Refused(refusal) => Ok(Reply::Refused(*refusal)),
             Reply::StoreFault { before, after } => Ok(Reply::StoreFault {
@@ -187,4 +176,55 @@ impl Reply {
             Reply::NoMemory => Ok(Reply::NoMemory),
         }
     }
+}
+
+// The replies whose copies take memory.
+
+fn copy_done(alloc: Global, done: &Done) -> Result<Reply, NoMemory>
+    ensures { IfOk result (λ reply. reply ≡ Reply.Done done.now) }
+{
+    Ok(Reply::Done(done.copy(alloc)?))
+}
+
+fn copy_audit_planned(
+    alloc: Global,
+    plan: &AuditPlan,
+    places: &Items<Place>,
+) -> Result<Reply, NoMemory>
+    ensures { IfOk result (λ reply. reply ≡ Reply.AuditPlanned plan.now places.now) }
+{
+    Ok(Reply::AuditPlanned {
+        plan: plan.copy(alloc)?,
+        places: places.copy(alloc)?,
+    })
+}
+
+fn copy_repair_planned(
+    alloc: Global,
+    plan: &RepairPlan,
+    sources: &Items<Place>,
+    targets: &Items<Place>,
+) -> Result<Reply, NoMemory>
+    ensures { IfOk result (λ reply. reply ≡ Reply.RepairPlanned plan.now sources.now targets.now) }
+{
+    Ok(Reply::RepairPlanned {
+        plan: plan.copy(alloc)?,
+        sources: sources.copy(alloc)?,
+        targets: targets.copy(alloc)?,
+    })
+}
+
+fn copy_exit_planned(
+    alloc: Global,
+    plan: &ExitPlan,
+    sources: &Items<Place>,
+    target: Place,
+) -> Result<Reply, NoMemory>
+    ensures { IfOk result (λ reply. reply ≡ Reply.ExitPlanned plan.now sources.now target) }
+{
+    Ok(Reply::ExitPlanned {
+        plan: plan.copy(alloc)?,
+        sources: sources.copy(alloc)?,
+        target,
+    })
 }

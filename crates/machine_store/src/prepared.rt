@@ -1,5 +1,5 @@
 // What a prepared step holds, and the common ends of steps.
-ghost use Rattle.std.specs.Prelude.{◌≡◌, ◌∷◌, [], IfOk, option_to_list};
+ghost use Rattle.std.specs.Prelude.{◌≡◌, ◌∷◌, ◌++◌, [], IfOk, option_to_list};
 ghost use Rattle.machine_calls.specs.declared.change.RecChange.TheVariants as changes;
 ghost use Rattle.machine_calls.specs.declared.refusal.Refusal.TheVariants as refusals;
 ghost use Rattle.machine_step.specs.Outcome.{unchanged, refused, accepted, done_with};
@@ -49,9 +49,7 @@ pub fn accepted(
 ) -> Result<Prepared, NoMemory>
     ensures { IfOk result (λ p. Holds p (accepted marks (put ∷ []) reply)) }
 {
-    let mut changes = Vec::new(alloc);
-    changes.push(RecChange::Marks(marks))?;
-    changes.push(put)?;
+    let changes = Vec::from_array(alloc, [RecChange::Marks(marks), put])?;
     Ok(Prepared { reply, changes })
 }
 
@@ -80,6 +78,22 @@ pub fn accepted_all(
     Ok(Prepared { reply, changes })
 }
 
+// The marks, what a numbered request puts, and the request as it is kept.
+fn kept_with(
+    alloc: Global,
+    marks: Marks,
+    put: Option<RecChange>,
+    kept: Kept,
+) -> Result<Vec<RecChange>, NoMemory>
+    ensures { IfOk result (λ cs. cs.items ≡ changes.Marks marks ∷ (option_to_list put ++ changes.Kept kept ∷ [])) }
+{
+    let (first, last) = (RecChange::Marks(marks), RecChange::Kept(kept));
+    match put {
+        Some(put) => Ok(Vec::from_array(alloc, [first, put, last])?),
+        None => Ok(Vec::from_array(alloc, [first, last])?),
+    }
+}
+
 // A numbered request is accepted: the marks, what it puts, and the request as it is kept.
 pub fn done_with(
     alloc: Global,
@@ -91,21 +105,15 @@ pub fn done_with(
 ) -> Result<Prepared, NoMemory>
     ensures { IfOk result (λ p. Holds p (done_with marks (option_to_list put) asking.now asked done)) }
 {
-    let kept = RecChange::Kept(Kept {
+    let kept = Kept {
+        done: done.copy(alloc)?,
         caller: asking.caller,
         number: asking.number,
         asked,
-        done: done.copy(alloc)?,
-    });
-    let reply = Reply::Done(done);
-    match put {
-        Some(put) => {
-            let mut changes = Vec::new(alloc);
-            changes.push(RecChange::Marks(marks))?;
-            changes.push(put)?;
-            changes.push(kept)?;
-            Ok(Prepared { reply, changes })
-        }
-        None => accepted(alloc, marks, kept, reply),
-    }
+    };
+    let changes = kept_with(alloc, marks, put, kept)?;
+    Ok(Prepared {
+        reply: Reply::Done(done),
+        changes,
+    })
 }

@@ -21,7 +21,7 @@ use sat_base::{Month, Rates, Tariff};
 use tally_payout::{Statement, Sums, rates_in};
 
 /// What comes of looking at one statement that is due.
-#[derive(Clone, Copy, Debug, PartialEq, Eq)]
+#[derive(Clone, Copy)]
 pub enum Found {
     /// The least place that breaks the rule.
     Broken(u64),

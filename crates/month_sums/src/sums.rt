@@ -17,7 +17,7 @@ use settlement::SettledRow;
 use tally_payout::Sums;
 
 /// What a node did in a month that has no statement yet.
-#[derive(Clone, Copy, Debug, PartialEq, Eq)]
+#[derive(Clone, Copy)]
 pub struct OpenSums {
     pub month: Month,
     pub node: NodeId,

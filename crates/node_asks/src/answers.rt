@@ -6,7 +6,7 @@ use sat_base::{Fetched, Items, NoMemory, Place};
 use std::alloc::Global;
 
 /// A place that was asked, and its answer.
-#[derive(Debug, Drop)]
+#[derive(Drop)]
 pub struct Answered {
     pub place: Place,
     pub what: Fetched,

@@ -22,7 +22,7 @@ use std::alloc::Global;
 pub const WINDOW: u64 = 16384;
 
 /// What came of asking the sources of a repair.
-#[derive(Debug, Drop)]
+#[derive(Drop)]
 pub struct Heeded {
     /// What was made of their shares. None where in some window fewer than `k` came, or no stripe was near them.
     pub made: Option<Remade>,

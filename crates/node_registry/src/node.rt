@@ -72,7 +72,7 @@ impl Node {
 pub const FIRST_ALPHA: u32 = 10_000;
 
 /// When an exited node left.
-#[derive(Clone, Copy, Debug, PartialEq, Eq)]
+#[derive(Clone, Copy)]
 pub struct Left {
     pub node: NodeId,
     pub at: Moment,

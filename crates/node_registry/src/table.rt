@@ -25,10 +25,19 @@ pub enum AddErr {
 ///
 /// Contracts see both lists, the nodes by id and the containments by node, and for how many more of each there
 /// is room. A node is looked up in one step, a containment in the logarithm of their number.
-#[derive(Drop)]
 pub struct NodeTable {
     nodes: Vec<Node>,
     contained: Rows<Containment>,
+}
+
+// By hand, so that it is taken apart here, and not anew wherever one is let go.
+impl Drop for NodeTable {
+    fn drop(self) {
+        let NodeTable {
+            nodes: _,
+            contained: _,
+        } = self;
+    }
 }
 
 impl Model for NodeTable {
@@ -214,107 +223,4 @@ fn make_room(nodes: &mut Vec<Node>) -> Result<(), NoMemory>
         nodes.reserve(1)?;
     }
     Ok(())
-}
-
-#[cfg(test)]
-mod tests {
-    use super::*;
-    use crate::node::{Status, subnet};
-    use sat_base::{Moment, SegId};
-    use std::test::Fail;
-
-    fn node(id: u32, port: u16) -> Node
-        ensures { result.id.0 ≡ id }
-    {
-        Node {
-            id: NodeId(id),
-            addr: 0xc000_0207,
-            port,
-            free: 1 << 40,
-            joined: Moment::of(5),
-            alpha: 1000,
-            beta: 0,
-            passes: 0,
-            status: Status::Active,
-        }
-    }
-
-    fn containment(id: NodeId) -> Containment
-        ensures { result.node ≡ id }
-    {
-        Containment {
-            node: id,
-            segment: SegId(8),
-            index: 3,
-            stripe: 2,
-            expect: [7; 32],
-            tries: 0,
-        }
-    }
-
-    // Adds the next node.
-    fn add(table: &mut NodeTable, port: u16) -> Result<(), AddErr> {
-        let id = table.len() as u32 + 1;
-        table.add(node(id, port))
-    }
-
-    // Sets the port of a node, if it is there.
-    fn set(table: &mut NodeTable, id: u32, port: u16) {
-        match table.get(NodeId(id)) {
-            Some(_) => table.set(node(id, port)),
-            None => {}
-        }
-    }
-
-    // Contains a node that is there and isn't contained.
-    fn contain(table: &mut NodeTable, id: NodeId) -> Result<(), NoMemory> {
-        match table.get(id) {
-            None => Ok(()),
-            Some(_) => match table.contained(id) {
-                Some(_) => Ok(()),
-                None => table.contain(containment(id)),
-            },
-        }
-    }
-
-    fn port(table: &NodeTable, id: u32) -> Option<u16> {
-        table.get(NodeId(id)).map(|node| node.port)
-    }
-
-    #[test]
-    fn keeps_nodes_and_containments(rt: HostRuntime) -> Result<(), Fail> {
-        let mut table = NodeTable::new(rt.alloc());
-        table.reserve(2, 1)?;
-        for node in [10, 20, 30] {
-            add(&mut table, node)?;
-        }
-        set(&mut table, 2, 25);
-        for (id, want) in [
-            (0, None),
-            (1, Some(10)),
-            (2, Some(25)),
-            (3, Some(30)),
-            (4, None),
-        ] {
-            assert_eq!(rt; port(&table, id), want, "at {id}");
-        }
-        for id in [3, 1] {
-            contain(&mut table, NodeId(id))?;
-        }
-        assert_eq!(rt; table.contained(NodeId(2)).copied(), None);
-        assert_eq!(rt;
-            table.contained(NodeId(3)).copied(),
-            Some(containment(NodeId(3)))
-        );
-        assert_eq!(rt;
-            table.containments(),
-            [containment(NodeId(1)), containment(NodeId(3))].as_slice()
-        );
-        table.release(NodeId(1));
-        table.release(NodeId(2));
-        assert_eq!(rt; table.containments(), [containment(NodeId(3))].as_slice());
-        assert_eq!(rt; (table.len(), table.nodes().len()), (3, 3));
-        assert_eq!(rt; subnet(0xc000_0207), 0xc0_0002);
-        Ok(())
-    }
 }

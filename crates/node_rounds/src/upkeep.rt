@@ -9,7 +9,7 @@ use sat_base::{Moment, Words64};
 use sat_rounds::RoundEnd;
 
 /// What a part of a round does.
-#[derive(Clone, Copy, Debug, PartialEq, Eq)]
+#[derive(Clone, Copy)]
 pub enum Upkeep {
     /// Asks a silent node again.
     Recheck,
@@ -22,7 +22,7 @@ pub enum Upkeep {
 }
 
 /// What a part of a round found, which its end tells.
-#[derive(Debug, Drop)]
+#[derive(Drop)]
 pub enum Found {
     Recheck { plan: RecheckPlan, checked: Checked },
     Audit(Judged),

@@ -10,7 +10,7 @@ use httparse::spans::{EMPTY_HEADER_SPAN, HeaderSpan, parse_response};
 use sat_base::{is_numeral, value_up_to};
 
 /// What a node is asked.
-#[derive(Clone, Copy, Debug)]
+#[derive(Clone, Copy)]
 pub enum Question {
     /// To give at most so many bytes of a piece.
     Fetch { len: u64 },
@@ -19,7 +19,7 @@ pub enum Question {
 }
 
 /// What a head says of the answer.
-#[derive(Clone, Copy, Debug)]
+#[derive(Clone, Copy)]
 pub enum Says {
     NoAnswer,
     Missing,

@@ -28,7 +28,7 @@ pub enum Fed {
     Done(Outcome),
 }
 
-#[derive(Clone, Copy, Debug)]
+#[derive(Clone, Copy)]
 pub enum Stage {
     // No head is there yet.
     Head,

@@ -11,7 +11,7 @@ pub const LIFE: u64 = 86400;
 pub const SETTLE_TIME: u64 = 172_800;
 
 /// All of a limit but its place: the same at each node of an offer or a plan.
-#[derive(Clone, Copy, Debug, PartialEq, Eq)]
+#[derive(Clone, Copy)]
 pub struct Grant {
     pub action: Action,
     pub serial: Serial,

@@ -13,7 +13,7 @@ use std::alloc::Global;
 use std::marker::Model;
 
 /// An amount that is kept of a node.
-#[derive(Clone, Copy, Debug, PartialEq, Eq)]
+#[derive(Clone, Copy)]
 pub struct Balance {
     pub node: NodeId,
     pub amount: u128,

@@ -20,8 +20,6 @@ mod placing;
 mod putting;
 mod stored;
 mod tables;
-#[cfg(test)]
-mod tests;
 
 pub use balance::{Balance, Balances};
 pub use laws::{

@@ -11,7 +11,6 @@ use std::alloc::Global;
 use tally_payout::{Statement, Tally};
 
 /// The tables that pay goes by, and what is kept beside them.
-#[derive(Drop)]
 pub struct PayTables {
     pub tallies: SlottedRows<Tally>,
     pub statements: SlottedRows<Statement>,
@@ -21,6 +20,19 @@ pub struct PayTables {
     pub stored: Balances,
     /// What the last statement of each node left, in micro-dollars.
     pub pots: Balances,
+}
+
+// By hand, so that it is taken apart here, and not anew wherever one is let go.
+impl Drop for PayTables {
+    fn drop(self) {
+        let PayTables {
+            tallies: _,
+            statements: _,
+            sums: _,
+            stored: _,
+            pots: _,
+        } = self;
+    }
 }
 
 impl PayTables {

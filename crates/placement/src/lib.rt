@@ -16,10 +16,6 @@ mod chains;
 mod draft;
 mod flags;
 mod placing;
-#[cfg(test)]
-mod plain;
 mod request;
-#[cfg(test)]
-mod tests;
 
 pub use placing::{PlaceErr, place};

@@ -7,7 +7,7 @@ use sat_base::NoMemory;
 use std::alloc::Global;
 
 /// Why nothing is read.
-#[derive(Clone, Copy, Debug, PartialEq, Eq)]
+#[derive(Clone, Copy)]
 pub(crate) enum Unread {
     /// The bytes begin with no spelling.
     Form,

@@ -7,7 +7,7 @@ use settlement::SettledRow;
 use tally_payout::{Statement, Tally};
 
 /// A record, in the order of the kinds.
-#[derive(Debug, PartialEq, Eq, Drop)]
+#[derive(Drop)]
 pub enum Rec {
     Settings(Settings),
     Marks(Marks),

@@ -15,7 +15,7 @@ use sat_base::{Caps, Month, NoMemory, Rates, Row, Scheme, Settings, Tariff, kind
 use std::alloc::Global;
 
 /// What settings of version 1 are in version 2.
-#[derive(Clone, Copy, Debug, PartialEq, Eq)]
+#[derive(Clone, Copy)]
 pub struct Upgraded {
     pub settings: Settings,
     /// The rates, from the first month on.

@@ -8,7 +8,7 @@ use sat_base::{Indexes, Scheme};
 
 /// A repair that made fresh pieces. Its type keeps its lists to its plan, so that at least `k` sources came and were
 /// not altered.
-#[derive(Debug, Drop)]
+#[derive(Drop)]
 pub struct Mended {
     /// The scheme of the segment.
     pub scheme: Scheme,
@@ -31,7 +31,7 @@ pub struct Mended {
 }
 
 /// A repair that made nothing.
-#[derive(Debug, Drop)]
+#[derive(Drop)]
 pub struct Unmended {
     /// The plan of the repair.
     pub plan: RepairPlan,
@@ -42,7 +42,7 @@ pub struct Unmended {
 }
 
 /// How a repair ended.
-#[derive(Debug, Drop)]
+#[derive(Drop)]
 pub enum RepairOutcome {
     /// It made fresh pieces.
     Mended(Mended),

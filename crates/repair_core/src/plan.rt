@@ -5,7 +5,7 @@ use sat_base::{At, Items, Moment, NoMemory, SegId, Serial};
 use std::alloc::Global;
 
 /// A repair of a segment: which pieces are read, and where fresh ones are to lie.
-#[derive(Debug, PartialEq, Eq, Drop)]
+#[derive(PartialEq, Eq, Drop)]
 pub struct RepairPlan {
     /// The plan's own number.
     pub plan: u64,
@@ -44,7 +44,7 @@ impl RepairPlan {
 }
 
 /// A repair that makes the piece of a node that leaves afresh elsewhere.
-#[derive(Debug, PartialEq, Eq, Drop)]
+#[derive(PartialEq, Eq, Drop)]
 pub struct ExitPlan {
     /// The piece of the node that leaves.
     pub leaving: At,

@@ -2,7 +2,7 @@
 use sat_base::{Bytes, Indexes, Items, Share};
 
 /// A segment that was rebuilt whole.
-#[derive(Debug, Drop)]
+#[derive(Drop)]
 pub struct Rebuilt {
     /// Its whole stripes. The last one is padded.
     pub bytes: Bytes,
@@ -24,7 +24,7 @@ pub enum RebuildErr {
 }
 
 /// What a rebuilding in windows makes.
-#[derive(Debug, Drop)]
+#[derive(Drop)]
 pub struct Remade {
     /// The sources that were altered in at least one stripe, by rising index.
     pub blamed: Indexes,

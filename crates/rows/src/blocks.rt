@@ -14,7 +14,6 @@ use std::mem;
 ///
 /// Contracts see the list of the rows, and `spare`, which is 1 where there is room for one more. A look-up costs the
 /// logarithm of the rows; adding one moves at most a block's rows, and now and then the blocks behind it.
-#[derive(Drop)]
 pub struct BlockRows<R: Ranked + Copy> {
     alloc: Global,
     blocks: Vec<Rows<R>>,
@@ -22,6 +21,19 @@ pub struct BlockRows<R: Ranked + Copy> {
     empty: Rows<R>,
     is_ready: bool,
     count: usize,
+}
+
+// By hand, so that it is taken apart here, and not anew wherever one is let go.
+impl<R: Ranked + Copy> Drop for BlockRows<R> {
+    fn drop(self) {
+        let BlockRows {
+            alloc: _,
+            blocks: _,
+            empty: _,
+            is_ready: _,
+            count: _,
+        } = self;
+    }
 }
 
 impl<R: Ranked + Copy> Model for BlockRows<R> {

@@ -20,8 +20,6 @@ mod finding;
 mod moving;
 mod rows;
 mod slots;
-#[cfg(test)]
-mod tests;
 
 pub use blocks::BlockRows;
 pub use rows::Rows;

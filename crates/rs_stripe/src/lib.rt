@@ -26,8 +26,6 @@ mod encoding;
 mod interpolation;
 mod laws;
 mod pieces;
-#[cfg(test)]
-mod tests;
 mod weights;
 
 pub use encoder::Encoder;

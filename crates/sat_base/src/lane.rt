@@ -5,7 +5,7 @@ ghost use Rattle.sat_base.specs.Lane.{LaneView, Nexts, SomeIsOut, got_back};
 use crate::Link;
 
 /// What a lane answers to the wait for a connection.
-#[derive(Debug, PartialEq, Eq, Drop)]
+#[derive(Drop)]
 pub enum Came<C> {
     /// One came.
     Conn(C),

@@ -5,7 +5,7 @@ ghost use Rattle.sat_base.specs.Streams.{FillsUp, IsFilling, Took, Wrote, failed
 use crate::{Given, Sink, Source, Taken};
 
 /// How the filling of a buffer ended.
-#[derive(Clone, Copy, Debug, PartialEq, Eq)]
+#[derive(Clone, Copy)]
 pub enum Filling {
     /// The buffer is full.
     Full,
@@ -16,7 +16,7 @@ pub enum Filling {
 }
 
 /// What a buffer was filled with.
-#[derive(Clone, Copy, Debug, PartialEq, Eq)]
+#[derive(Clone, Copy)]
 pub struct Filled {
     /// How many bytes of the buffer stand.
     pub len: usize,

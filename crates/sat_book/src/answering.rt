@@ -1,5 +1,5 @@
 // One call: its step prepared, written, and finished or forgotten.
-ghost use Rattle.std.specs.Prelude.{◌≡◌, ◌<◌, ℕ, [], None, slice_index_or};
+ghost use Rattle.std.specs.Prelude.{◌≡◌, [], None};
 ghost use Rattle.machine_step.specs.Bounds.{Each, IsValid};
 ghost use Rattle.machine_step.specs.Step.{IsWellFormed, step};
 ghost use Rattle.machine_step.specs.Writable.{IsWritable};
@@ -8,6 +8,7 @@ ghost use Rattle.sat_book.specs.Ids.{AreIds};
 ghost use Rattle.sat_book.specs.Kept.{AreWritten, Answers};
 
 use crate::changes::row_changes;
+use machine_calls::are_bytes;
 use sat_base::{Committed, Keeper};
 use sat_machine::{Call, Core, Prepared, Reply};
 use std::alloc::Global;
@@ -71,13 +72,6 @@ fn no_memory() -> Answer
         told: Reply::NoMemory,
         kept: Reply::NoMemory,
     }
-}
-
-// A slice of bytes is one.
-fn are_bytes(bytes: &[u8])
-    ensures { (i : ℕ) → slice_index_or bytes.now i 0 < 256 }
-{
-    let _ = bytes;
 }
 
 // Looks at the bytes of an order, which shows contracts that they are within their type.

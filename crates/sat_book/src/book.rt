@@ -21,7 +21,7 @@ use std::snapshot::Snapshot;
 use turnstile::Turn;
 
 /// What a call was answered.
-#[derive(Debug, PartialEq, Eq, Drop)]
+#[derive(Drop)]
 pub struct Answered {
     /// How many entries stood before it.
     pub place: u64,

@@ -7,7 +7,7 @@ use sat_base::Done;
 use sat_book::Entry;
 
 /// Which replies are counted.
-#[derive(Clone, Copy, Debug, PartialEq, Eq)]
+#[derive(Clone, Copy)]
 pub enum Counted {
     /// A segment was committed.
     Committed,

@@ -6,7 +6,7 @@ use sat_base::{Items, NoMemory, Words64};
 use std::alloc::Global;
 
 /// The generator splitmix64: the same words from the same start.
-#[derive(Clone, Copy, Debug, PartialEq, Eq)]
+#[derive(Clone, Copy)]
 pub struct Generator {
     state: u64,
 }

@@ -1,15 +1,15 @@
 // Orders that a customer gives to nodes.
-ghost use Rattle.std.specs.Prelude.{◌^◌, ◌<◌, ℕ, slice_index_or, IfOk};
+ghost use Rattle.std.specs.Prelude.{◌^◌, ◌<◌, IfOk};
 ghost use Rattle.machine_step.specs.Step.{IsWellFormed};
 ghost use Rattle.machine_step.specs.Tables.{Tables};
 
-use machine_calls::Call;
+use machine_calls::{Call, are_bytes};
 use order_limits::{Action, Grant, Keys, Order};
 use sat_base::{At, Items, Moment, NoMemory, NodeId, Offer, Place};
 use std::alloc::Global;
 
 /// An order that a node can present.
-#[derive(Clone, Copy, Debug, PartialEq, Eq)]
+#[derive(Clone, Copy)]
 pub(crate) struct Presented {
     pub node: NodeId,
     pub order: [u8; 123],
@@ -38,13 +38,6 @@ pub(crate) fn order_at(keys: &Keys, action: Action, offer: &Offer, place: &Place
         node: place.node,
         order,
     }
-}
-
-// A slice of bytes is one.
-fn are_bytes(bytes: &[u8])
-    ensures { (i : ℕ) → slice_index_or bytes.now i 0 < 256 }
-{
-    let _ = bytes;
 }
 
 /// The call by which a node presents its order. The one error is want of memory.

@@ -1,7 +1,7 @@
 use sat_base::{Caps, Rates, Scheme};
 
 /// What a store is to be made with.
-#[derive(Clone, Copy, Debug, PartialEq, Eq)]
+#[derive(Clone, Copy)]
 pub struct Setup {
     /// From which every key derives. Without one it is drawn.
     pub secret: Option<[u8; 32]>,

@@ -21,7 +21,7 @@ pub struct Post<L, T, W> {
 }
 
 /// Why the worker of a lane ended.
-#[derive(Clone, Copy, Debug, PartialEq, Eq)]
+#[derive(Clone, Copy)]
 pub enum LaneEnd {
     /// No connection will come any more.
     Over,

@@ -1,5 +1,5 @@
 // A connection is listened to.
-ghost use Rattle.std.specs.Prelude.{◌≡◌, ◌≤◌, ◌<◌, ℕ, List, length, not, IsTrue, false, slice_index_or};
+ghost use Rattle.std.specs.Prelude.{◌≡◌, ◌≤◌, ◌<◌, ℕ, List, length, not, IsTrue, false};
 ghost use Rattle.machine_step.specs.Step.{HasBytes, IsAsked};
 ghost use Rattle.sat_base.specs.Outside.{CountsExactly, with_front};
 ghost use Rattle.sat_base.specs.Streams.{Took};
@@ -7,13 +7,13 @@ ghost use Rattle.http_edge.specs.Requests.{MayRead, max_request};
 ghost use Rattle.sat_rounds.specs.Listening.{Hears, Enters, call_of, words_wanted, failed_to_read, failed_to_draw, IfCall};
 
 use http_edge::{EdgeErr, ReadErr, Wish, read_request};
-use machine_calls::Call;
+use machine_calls::{Call, are_bytes};
 use order_limits::Keys;
 use sat_base::{Clock, Drawn, Items, Link, Moment, Words, Words64};
 use std::alloc::Global;
 
 /// What a connection asks.
-#[derive(Debug, Drop)]
+#[derive(Drop)]
 pub enum Listened {
     /// A call of the machine.
     Call(Call),
@@ -104,13 +104,6 @@ pub fn draw<W: Words>(words: &mut W, room: &mut [u64]) -> bool
         }
     }
     true
-}
-
-// A slice of bytes is one, which contracts aren't told of a list.
-fn are_bytes(bytes: &[u8])
-    ensures { (i : ℕ) → slice_index_or bytes.now i 0 < 256 }
-{
-    let _ = bytes;
 }
 
 // The call of a wish at a moment, with these words.

@@ -9,7 +9,7 @@ use std::sync::Wait;
 use turnstile::Desk;
 
 /// How a round ended.
-#[derive(Clone, Copy, Debug, PartialEq, Eq)]
+#[derive(Clone, Copy)]
 pub enum RoundEnd {
     /// It did all that there was to do.
     Through,
@@ -24,14 +24,14 @@ pub enum RoundEnd {
 }
 
 /// One round: the places of its entries, in their order, and how it ended.
-#[derive(Debug, Drop)]
+#[derive(Drop)]
 pub struct Round {
     pub places: Vec<u64>,
     pub end: RoundEnd,
 }
 
 /// Why a worker of rounds ended.
-#[derive(Clone, Copy, Debug, PartialEq, Eq)]
+#[derive(Clone, Copy)]
 pub enum RoundsEnd {
     /// No tick will come any more.
     Over,

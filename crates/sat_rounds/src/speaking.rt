@@ -10,7 +10,7 @@ use sat_base::{Bytes, Link, NoMemory};
 use std::alloc::Global;
 
 /// What a connection is told.
-#[derive(Debug, PartialEq, Eq, Drop)]
+#[derive(Drop)]
 pub enum Said {
     /// The machine's reply, which is one that callers are told.
     Reply(Reply),

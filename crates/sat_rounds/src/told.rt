@@ -8,7 +8,7 @@ use turnstile::Pass;
 pub type BookPass<K> = Pass<Call, Reply, Option<Origin<K>>>;
 
 /// How a session ended. `sent` tells whether all of its answer was written; where it wasn't, a put failed.
-#[derive(Clone, Copy, Debug, PartialEq, Eq)]
+#[derive(Clone, Copy)]
 pub enum SessionEnd {
     /// Its call is the entry at this place, whose reply it was told.
     Entered { place: u64, sent: bool },
@@ -23,7 +23,7 @@ pub enum SessionEnd {
 }
 
 /// One connection of a lane: its number, from 0, and how it ended.
-#[derive(Clone, Copy, Debug, PartialEq, Eq)]
+#[derive(Clone, Copy)]
 pub struct Session {
     pub number: u64,
     pub end: SessionEnd,

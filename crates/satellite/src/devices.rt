@@ -104,8 +104,9 @@ pub fn devices<C: Link, K, N>(
     }
 }
 
-/// Runs the command that the words are, over any devices. What `satellite` promises of it isn't handed on, so that it needn't
-/// be worked out for these devices.
+/// Runs the command that the words are, over any devices: its status, and the keeper again. The other devices are let go here,
+/// where the prover doesn't look into them, and what `satellite` promises isn't handed on, so that it needn't be worked out
+/// for those of the program.
 pub fn run<
     C: Link,
     K: Keeper + Send,
@@ -116,13 +117,23 @@ pub fn run<
     I: Ticks + Send,
     G: Gate,
     R: Threads + Wait + Sync,
->(
-    rt: &R,
-    alloc: Global,
-    line: &Line,
-    world: World<C, K, L, N, T, W, I, G>,
-) -> Ended<C, K, L, N, T, W, I, G>
+>(rt: &R, alloc: Global, line: &Line, world: World<C, K, L, N, T, W, I, G>) -> (u8, K)
     requires { length world.posts.items ≤ 16 }
 {
-    satellite(rt, alloc, line, world)
+    let Ended {
+        status,
+        world,
+        term: _,
+        drilled: _,
+    } = satellite(rt, alloc, line, world);
+    let World {
+        console: _,
+        keeper,
+        posts: _,
+        audit: _,
+        repair: _,
+        tally: _,
+        gate: _,
+    } = world;
+    (status, keeper)
 }

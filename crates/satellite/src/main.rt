@@ -64,7 +64,8 @@ fn without_store<N: Nodes + Send, R: Threads + Wait + Sync>(
         network,
     };
     let world = devices(rt, console, keeper, crew);
-    devices::run(handles, alloc, line, world).status
+    let (status, _) = devices::run(handles, alloc, line, world);
+    status
 }
 
 fn run<N: Nodes + Send, R: Threads + Wait + Sync>(

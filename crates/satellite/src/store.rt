@@ -39,8 +39,8 @@ fn over_store<S: Alter + Drop + Send, N: Nodes + Send, R: Threads + Wait + Sync>
     };
     let console = Console::new(rt.reader(), io::writer(&rt));
     let world = devices(rt, console, keeper, crew);
-    let ended = run(handles, alloc, line, world);
-    Ok((ended.status, ended.world.keeper.into_connection()))
+    let (status, keeper) = run(handles, alloc, line, world);
+    Ok((status, keeper.into_connection()))
 }
 
 /// A run over the file of this name, which is closed at the end, so that one file is left.

@@ -4,7 +4,7 @@ use Rattle.std.specs.Prelude.{◌⊎◌}
 use Rattle.sat_base.specs.Outside.{About, Rose}
 use Rattle.sat_base.specs.Rows.{Rows}
 use Rattle.machine_step.specs.Tables.{Tables}
-use Rattle.sat_book.specs.Book.{BookView, start_of}
+use Rattle.sat_book.specs.Book.{BookView, Keeps, Spell, start_of}
 use Rattle.sat_book.specs.Legal.{E, replayed}
 use Rattle.sat_book.specs.Openings.{Opens}
 use Rattle.satellite_cli.proofs.Ends.{closed_well}
@@ -22,11 +22,12 @@ prints_well t month status old new (inr (inr wanting)) no_cut closed = inr wanti
 module _ {K : Type 0} (faults : K → ℕ) (is_clean is_open tells : K → Type 0) (rows_at : K → Rows) (leaves : K → Rows → Type 0) where
   -- a book without entries has the tables that it was opened with
   pub printed_of : (month : ℕ) (old new : K) (status : ℕ) (said said_after : About) (b : BookView K) (tables : Tables) → Opens faults is_clean is_open tells rows_at leaves old 1 b
-      → new ≡ b.keeper → tables ≡ b.tables → b.tables ≡ replayed (start_of b.opening) b.history → Prints tables month status said said_after
+      → new ≡ b.keeper → Spell b.opening → Keeps is_clean is_open tells rows_at leaves b.first b.opened new (start_of b.opening) b.history
+      → tables ≡ b.tables → b.tables ≡ replayed (start_of b.opening) b.history → Prints tables month status said said_after
       → IsPrinted faults is_clean is_open tells rows_at leaves month old new status said said_after
-  printed_of month old new status said said_after b tables opens kept own replay prints =
+  printed_of month old new status said said_after b tables opens keeper spelled keeps own replay prints =
       let start : tables ≡ start_of b.opening = own ∙ (replay ∙ ap (λ (h : List E). replayed (start_of b.opening) h) opens.none_yet) in
-      inr (b, opens, kept, subst (λ (t : Tables). Prints t month status said said_after) start prints)
+      inr (b, record { opens = opens; keeper = keeper; spelled = spelled; keeps = keeps; prints = subst (λ (t : Tables). Prints t month status said said_after) start prints })
 
   -- over sound rows
   pub sheets_well : (month : ℕ) (old new : K) (status : ℕ) (said said_after : About) → IsPrinted faults is_clean is_open tells rows_at leaves month old new status said said_after
@@ -34,5 +35,5 @@ module _ {K : Type 0} (faults : K → ℕ) (is_clean is_open tells : K → Type 
       → (status ≡ 8 → ⊥) → (status ≡ 0) ⊎ (status ≡ 9)
   sheets_well month old new status said said_after (inl none) up told sound no_fault no_cut closed =
       inr (closed_well faults is_clean is_open tells rows_at leaves old new status said said_after none up told sound no_fault)
-  sheets_well month old new status said said_after (inr (b, opens, keeper, prints)) up told sound no_fault no_cut closed =
-      prints_well _ month status said said_after prints no_cut closed
+  sheets_well month old new status said said_after (inr (b, printed)) up told sound no_fault no_cut closed =
+      prints_well _ month status said said_after printed.prints no_cut closed

@@ -1,17 +1,13 @@
 -- What `sheet` prints, and what it leaves in the keeper.
-use Rattle.std.specs.Prelude.{◌≡◌, ◌⊎◌, ℕ, ◌<◌, ◌≤◌, ◌==◌, List, codes, filter}
+use Rattle.std.specs.Prelude.{◌≡◌, ◌⊎◌, ℕ, ◌<◌, ◌≤◌, codes}
 use Rattle.sat_base.specs.Outside.{About, Rose, with_end}
 use Rattle.sat_base.specs.Rows.{Rows}
-use Rattle.tally_payout.specs.Sheet.{sheet_text}
 use Rattle.machine_step.specs.Tables.{Tables}
-use Rattle.sat_book.specs.Book.{BookView, start_of}
+use Rattle.sat_book.specs.Book.{BookView, Keeps, Spell, start_of}
 use Rattle.sat_book.specs.Openings.{Opens}
 use Rattle.sat_console.specs.Run.{Says, fault_line}
+use Rattle.sat_drill.specs.Drill.{sheet_of}
 use Rattle.satellite_cli.specs.Serving.{NotOpened}
-
--- the sheet of a month: its statements, in the order of their nodes
-abbrev pub sheet_of : Tables → ℕ → List ℕ
-sheet_of t month = sheet_text (filter (λ s. s.month.0 == month) t.statements)
 
 -- the sheet was written, or a front of it at status 5
 pub record IsSheet (t : Tables) (month status : ℕ) (old new : About) : Type 0 where
@@ -27,8 +23,17 @@ Prints t month status old new =
     ⊎ ((status ≡ 9) × Says (fault_line 9) old new))
 
 module _ {K : Type 0} (faults : K → ℕ) (is_clean is_open tells : K → Type 0) (rows_at : K → Rows) (leaves : K → Rows → Type 0) where
-  -- there is no book, and it is said why; or it was printed of the book's tables, and the keeper is the book's
+  -- over the book that was opened over the keeper: its tables are those that its rows spell, what was printed is of them, and the
+  -- keeper that comes back is the book's, with these rows
+  pub record IsPrintedOf (book : BookView K) (month : ℕ) (old new : K) (status : ℕ) (said said_after : About) : Type 0 where
+    pub opens : Opens faults is_clean is_open tells rows_at leaves old 1 book
+    pub keeper : new ≡ book.keeper
+    pub spelled : Spell book.opening
+    pub keeps : Keeps is_clean is_open tells rows_at leaves book.first book.opened new (start_of book.opening) book.history
+    pub prints : Prints (start_of book.opening) month status said said_after
+
+  -- there is no book, and it is said why; or there is one, and it was printed
   abbrev pub IsPrinted : ℕ → (old new : K) → ℕ → (said said_after : About) → Type 0
   IsPrinted month old new status said said_after =
       NotOpened faults is_clean is_open tells rows_at leaves old new status said said_after
-      ⊎ ((book : BookView K) × Opens faults is_clean is_open tells rows_at leaves old 1 book × (new ≡ book.keeper) × Prints (start_of book.opening) month status said said_after)
+      ⊎ ((book : BookView K) × IsPrintedOf book month old new status said said_after)

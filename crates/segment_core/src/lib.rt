@@ -15,8 +15,6 @@
 mod committing;
 mod pieces;
 mod places;
-#[cfg(test)]
-mod sample;
 mod segment;
 
 pub use committing::{CommitErr, commit};

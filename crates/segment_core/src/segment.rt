@@ -5,7 +5,7 @@ use std::marker::Model;
 ///
 /// Version 0 is pending: its pieces are the places that were offered for them. From version 1 on it is live,
 /// and each change of its pieces raises the version.
-#[derive(Debug, PartialEq, Eq, Drop)]
+#[derive(Drop)]
 pub struct Segment {
     pub id: SegId,
     pub customer: CustomerId,

@@ -8,7 +8,7 @@ use sat_base::{At, NodeId};
 use segment_core::Segment;
 
 /// A live segment needs repair with at least `k` and fewer than `m` healthy pieces.
-#[derive(Clone, Copy, Debug, PartialEq, Eq)]
+#[derive(Clone, Copy)]
 pub struct Limits {
     pub k: u8,
     pub m: u8,

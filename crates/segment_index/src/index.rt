@@ -20,7 +20,6 @@ use std::marker::Model;
 ///
 /// A node that no longer serves is noted at once ([`lose`](Self::lose)). Its pieces count as healthy until the next
 /// [`refresh`](Self::refresh).
-#[derive(Drop)]
 pub struct SegmentIndex {
     pub(crate) limits: Limits,
     pub(crate) segments: SlottedRows<Segment>,
@@ -33,6 +32,21 @@ pub struct SegmentIndex {
     pub(crate) counted: Rows<GoneNode>,
     // Those of which it doesn't yet.
     pub(crate) pending: Rows<GoneNode>,
+}
+
+// By hand, so that it is taken apart here, and not anew wherever one is let go.
+impl Drop for SegmentIndex {
+    fn drop(self) {
+        let SegmentIndex {
+            limits: _,
+            segments: _,
+            live: _,
+            by_node: _,
+            by_need: _,
+            counted: _,
+            pending: _,
+        } = self;
+    }
 }
 
 impl Model for SegmentIndex {

@@ -26,8 +26,6 @@ mod opening;
 mod pairs;
 mod queries;
 mod refreshing;
-#[cfg(test)]
-mod tests;
 
 pub use health::Limits;
 pub use index::SegmentIndex;

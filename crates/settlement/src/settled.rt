@@ -18,11 +18,21 @@ use std::marker::Model;
 /// Contracts see the list of the rows, the cap on their number, and `spare`, the number of rows for which
 /// there is room; the rows rise by serial and node, as each call tells. A look-up costs the logarithm of the rows; adding a row moves a few hundred at most, and now and
 /// then the list of their blocks.
-#[derive(Drop)]
 pub struct Settled {
     rows: BlockRows<SettledRow>,
     count: u32,
     cap: u32,
+}
+
+// By hand, so that it is taken apart here, and not anew wherever one is let go.
+impl Drop for Settled {
+    fn drop(self) {
+        let Settled {
+            rows: _,
+            count: _,
+            cap: _,
+        } = self;
+    }
 }
 
 impl Model for Settled {

@@ -2,13 +2,13 @@
 ghost use Rattle.std.specs.Prelude.{◌≡◌, IfOk};
 ghost use Rattle.node_asks.specs.Asks.{pieces_of};
 
-use crate::places::{SEGMENT, Wanted, is_asked, keys, nodes, pieces_at, places, scheme};
+use crate::places::{SEGMENT, Wanted, is_asked, keys, nodes, pieces_at, place, places, scheme};
 use audit_core::{AuditPlan, RecheckPlan};
 use node_asks::{hear, hear_one};
 use order_limits::Action;
-use sat_base::{Bytes, Fetched, Items, Moment, NoMemory, NodeId, Nodes, Place, Serial};
+use sat_base::{Ask, Bytes, Fetched, Items, Moment, NoMemory, NodeId, Place, Serial};
 use std::alloc::Global;
-use std::test::Fail;
+use std::process::Abort;
 
 // An audit of stripe 1 at these places.
 fn plan(alloc: Global, places: &[Place]) -> Result<AuditPlan, NoMemory>
@@ -31,10 +31,37 @@ fn share(alloc: Global, byte: u8) -> Result<Fetched, NoMemory> {
     Ok(Fetched::Share(bytes))
 }
 
+// What is wanted of each place, in order.
+fn wanted(alloc: Global) -> Result<Vec<Fetched>, NoMemory> {
+    Ok(vec![in alloc;
+        share(alloc, 10)?,
+        share(alloc, 11)?,
+        Fetched::NoAnswer,
+        share(alloc, 13)?,
+        Fetched::Share(Items::of(Vec::new(alloc))),
+        Fetched::Missing,
+    ]?)
+}
+
+// Each place was asked for its share of stripe 1.
+fn are_asked(rt: &impl Abort, asks: &[Ask]) {
+    assert!(rt; asks.len() == 6);
+    for (index, ask) in (0..6).zip(asks) {
+        let wanted = Wanted {
+            action: Action::GetAudit,
+            index,
+            offset: 1,
+            len: 1,
+            limit: 1,
+        };
+        is_asked(rt, ask, wanted);
+    }
+}
+
 #[test]
-fn hears_of_each_place(rt: HostRuntime) -> Result<(), Fail> {
+fn hears_of_each_place(rt: HostRuntime) {
     let alloc = rt.alloc();
-    let places = places(alloc, &[0, 1, 2, 3, 4, 5])?;
+    let places = places(alloc, &[0, 1, 2, 3, 4, 5]).expect(&rt, "places");
     // the third call fails, the piece of index 5 isn't held, and that of index 4 ends before the stripe
     let held: &[(u8, &[u8])] = &[
         (0, &[1, 10, 3]),
@@ -43,8 +70,8 @@ fn hears_of_each_place(rt: HostRuntime) -> Result<(), Fail> {
         (3, &[1, 13, 3]),
         (4, &[1]),
     ];
-    let mut nodes = nodes(alloc, held, &[3])?;
-    let plan = plan(alloc, places.as_slice())?;
+    let mut nodes = nodes(alloc, held, &[3]).expect(&rt, "nodes");
+    let plan = plan(alloc, places.as_slice()).expect(&rt, "a plan");
     let scheme = scheme(&rt, 1);
     let heard = hear(
         alloc,
@@ -53,40 +80,27 @@ fn hears_of_each_place(rt: HostRuntime) -> Result<(), Fail> {
         &mut nodes,
         &plan,
         places.as_slice(),
-    )?;
-    let wanted = vec![in alloc;
-        share(alloc, 10)?,
-        share(alloc, 11)?,
-        Fetched::NoAnswer,
-        share(alloc, 13)?,
-        Fetched::Share(Items::of(Vec::new(alloc))),
-        Fetched::Missing,
-    ]?;
-    assert_eq!(rt; heard.as_slice().len(), wanted.len());
+    );
+    let heard = heard.expect(&rt, "answers");
+    let wanted = wanted(alloc).expect(&rt, "answers");
+    assert!(&rt; heard.as_slice().len() == wanted.len());
     for (i, (one, what)) in heard.as_slice().iter().zip(&wanted).enumerate() {
-        assert_eq!(rt; usize::from(one.index), i);
-        assert_eq!(rt; one.what, *what);
+        assert!(&rt; usize::from(one.index) == i && one.what == *what);
     }
-    assert_eq!(rt; nodes.asks().len(), 6);
-    for (index, ask) in (0..6).zip(nodes.asks()) {
-        let wanted = Wanted {
-            action: Action::GetAudit,
-            index,
-            offset: 1,
-            len: 1,
-            limit: 1,
-        };
-        is_asked(&rt, ask, wanted)?;
-    }
-    Ok(())
+    are_asked(&rt, nodes.asks());
+}
+
+fn two(alloc: Global, first: u8, second: u8) -> Result<Fetched, NoMemory> {
+    let bytes: Bytes = Items::of(vec![in alloc; first, second]?);
+    Ok(Fetched::Share(bytes))
 }
 
 #[test]
-fn hears_of_the_place_of_a_recheck(rt: HostRuntime) -> Result<(), Fail> {
+fn hears_of_the_place_of_a_recheck(rt: HostRuntime) {
     let alloc = rt.alloc();
     let scheme = scheme(&rt, 2);
     let held: &[(u8, &[u8])] = &[(3, &[1, 2, 3, 4, 5, 6])];
-    let mut nodes = nodes(alloc, held, &[2])?;
+    let mut nodes = nodes(alloc, held, &[2]).expect(&rt, "nodes");
     let plan = RecheckPlan {
         plan: 9,
         serial: Serial(7),
@@ -97,17 +111,14 @@ fn hears_of_the_place_of_a_recheck(rt: HostRuntime) -> Result<(), Fail> {
         stripe: 2,
         expect: [0; 32],
     };
-    let places = places(alloc, &[3])?;
-    let [place] = places.as_slice() else {
-        return Ok(());
-    };
-    assert!(rt; place.node == plan.node && place.index == plan.index);
-    let wanted = Fetched::Share(Items::of(vec![in alloc; 5, 6]?));
-    for wanted in [wanted, Fetched::NoAnswer] {
-        let heard = hear_one(alloc, &keys(), &scheme, &mut nodes, &plan, place);
-        assert_eq!(rt; heard, wanted);
-    }
-    assert_eq!(rt; nodes.asks().len(), 2);
+    let place = place(3);
+    assert!(&rt; place.node == plan.node && place.index == plan.index);
+    let wanted = two(alloc, 5, 6).expect(&rt, "a share");
+    let heard = hear_one(alloc, &keys(), &scheme, &mut nodes, &plan, &place);
+    assert!(&rt; heard == wanted);
+    let heard = hear_one(alloc, &keys(), &scheme, &mut nodes, &plan, &place);
+    assert!(&rt; heard == Fetched::NoAnswer);
+    assert!(&rt; nodes.asks().len() == 2);
     for ask in nodes.asks() {
         let wanted = Wanted {
             action: Action::GetAudit,
@@ -116,7 +127,6 @@ fn hears_of_the_place_of_a_recheck(rt: HostRuntime) -> Result<(), Fail> {
             len: 2,
             limit: 2,
         };
-        is_asked(&rt, ask, wanted)?;
+        is_asked(&rt, ask, wanted);
     }
-    Ok(())
 }

@@ -89,18 +89,25 @@ fn is_told(sources: &[u8], targets: &[u8], tale: &Tale) -> bool
         && are_apart(blamed, missing)
 }
 
-// Whether a repair of sources 0 to 3 to a target 4 is mended. None where it can't have ended as it is told.
-fn is_mended(rt: &impl Abort, alloc: Global, tale: Tale) -> Result<Option<bool>, NoMemory> {
-    let plan = RepairPlan {
+// A repair of sources 0 to 3 to a target 4.
+fn plan(alloc: Global) -> Result<RepairPlan, NoMemory> {
+    let sources = pieces_at(alloc, places(alloc, &[0, 1, 2, 3])?.as_slice())?;
+    let targets = pieces_at(alloc, places(alloc, &[4])?.as_slice())?;
+    Ok(RepairPlan {
         plan: 9,
         segment: SEGMENT,
         version: 1,
         serial: Serial(7),
         issued: Moment::of(5),
         len: 3,
-        sources: pieces_at(alloc, places(alloc, &[0, 1, 2, 3])?.as_slice())?,
-        targets: pieces_at(alloc, places(alloc, &[4])?.as_slice())?,
-    };
+        sources,
+        targets,
+    })
+}
+
+// Whether it is mended. None where it can't have ended as it is told.
+fn is_mended(rt: &impl Abort, alloc: Global, tale: Tale) -> Result<Option<bool>, NoMemory> {
+    let plan = plan(alloc)?;
     let sources = indexes_of(alloc, plan.sources.as_slice())?;
     let targets = indexes_of(alloc, plan.targets.as_slice())?;
     if !is_told(sources.as_slice(), targets.as_slice(), &tale) {

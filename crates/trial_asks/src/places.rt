@@ -9,7 +9,6 @@ use sat_base::{
 };
 use std::alloc::Global;
 use std::process::Abort;
-use std::test::Fail;
 
 /// The segment that is spoken of.
 pub const SEGMENT: SegId = SegId(8);
@@ -28,7 +27,7 @@ pub fn keys() -> Keys {
 }
 
 /// The place of the piece of an index, at the node of the next number.
-fn place(index: u8) -> Place {
+pub fn place(index: u8) -> Place {
     Place {
         index,
         node: NodeId(u32::from(index) + 1),
@@ -110,7 +109,7 @@ pub struct Wanted {
 }
 
 /// An ask is of the wanted range, at the place of its index, under an order for the whole limit.
-pub fn is_asked(rt: &impl Abort, ask: &Ask, wanted: Wanted) -> Result<(), Fail> {
+pub fn is_asked(rt: &impl Abort, ask: &Ask, wanted: Wanted) {
     let at = place(wanted.index);
     assert_eq!(rt; (ask.node, ask.addr, ask.port), (at.node, at.addr, at.port));
     assert_eq!(rt; (ask.segment, ask.index), (SEGMENT, wanted.index));
@@ -132,5 +131,4 @@ pub fn is_asked(rt: &impl Abort, ask: &Ask, wanted: Wanted) -> Result<(), Fail> 
         (SEGMENT, CustomerId(0))
     );
     assert_eq!(rt; (order.limit.serial.0, order.limit.issued), (7, 5));
-    Ok(())
 }

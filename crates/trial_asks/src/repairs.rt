@@ -12,7 +12,7 @@ use node_asks::{Heeded, remake, spread};
 use order_limits::Action;
 use repair_core::RepairPlan;
 use rs_stripe::encode_piece;
-use sat_base::{Items, MemNodes, Moment, NoMemory, Place, Scheme, Serial, Share};
+use sat_base::{Bytes, Items, MemNodes, Moment, NoMemory, Place, Scheme, Serial, Share};
 use std::alloc::Global;
 use std::process::Abort;
 use std::test::Fail;
@@ -28,6 +28,8 @@ fn plan(
     ensures sources { IfOk result (λ plan. plan.sources ≡ pieces_of sources.now) }
     ensures targets { IfOk result (λ plan. plan.targets ≡ pieces_of targets.now) }
 {
+    let sources = pieces_at(alloc, sources)?;
+    let targets = pieces_at(alloc, targets)?;
     Ok(RepairPlan {
         plan: 9,
         segment: SEGMENT,
@@ -35,8 +37,8 @@ fn plan(
         serial: Serial(7),
         issued: Moment::of(5),
         len,
-        sources: pieces_at(alloc, sources)?,
-        targets: pieces_at(alloc, targets)?,
+        sources,
+        targets,
     })
 }
 
@@ -108,7 +110,7 @@ fn tried(rt: &impl Abort, alloc: Global, case: Case<'_>) -> Result<(), Fail> {
             len: 2,
             limit: 2,
         };
-        is_asked(rt, ask, wanted)?;
+        is_asked(rt, ask, wanted);
     }
     Ok(())
 }
@@ -169,20 +171,61 @@ fn makes_nothing_of_too_few(rt: HostRuntime) -> Result<(), Fail> {
     tried(&rt, rt.alloc(), case)
 }
 
+// A segment of so many bytes.
+fn segment(alloc: Global, len: u64) -> Result<Vec<u8>, NoMemory> {
+    Ok((0..len).map(|i| (i % 251) as u8).collect(alloc)?)
+}
+
+// The pieces of the indexes 0 to 4 of a segment.
+fn five_pieces(
+    rt: &impl Abort,
+    alloc: Global,
+    scheme: &Scheme,
+    segment: &[u8],
+) -> Result<Vec<Bytes>, NoMemory> {
+    let mut pieces = Vec::new(alloc);
+    for index in 0..5 {
+        assert!(rt; index < scheme.n && segment.len() <= 1 << 40);
+        pieces.push(encode_piece(alloc, scheme, segment, index)?)?;
+    }
+    Ok(pieces)
+}
+
+// What is heeded where the second ask and the seventh fail, and how many were made.
+fn heeded_twice(
+    rt: &impl Abort,
+    alloc: Global,
+    scheme: &Scheme,
+    len: u64,
+    held: &[(u8, &[u8])],
+) -> Result<(Heeded, usize), NoMemory> {
+    let mut nodes = nodes(alloc, held, &[2, 7])?;
+    let heeded = remade(rt, alloc, scheme, &mut nodes, len, &[0, 1, 2, 3])?;
+    Ok((heeded, nodes.asks().len()))
+}
+
+// Whether all that was made fresh is this.
+fn is_made(heeded: &Heeded, fresh: &[u8]) -> bool {
+    match &heeded.made {
+        Some(made) => made
+            .fresh
+            .as_slice()
+            .iter()
+            .all(|piece| piece.bytes.as_slice() == fresh),
+        None => false,
+    }
+}
+
 // A source of two windows is silent in the second one.
 #[test]
-fn asks_in_the_next_window_who_answered(rt: HostRuntime) -> Result<(), Fail> {
+fn asks_in_the_next_window_who_answered(rt: HostRuntime) {
     let alloc = rt.alloc();
     let scheme = scheme(&rt, 1024);
     let len = 17 * 2 * 1024;
-    let segment: Vec<u8> = (0..len).map(|i| (i % 251) as u8).collect(alloc)?;
-    let mut pieces = Vec::new(alloc);
-    for index in 0..5 {
-        assert!(&rt; index < scheme.n && segment.len() <= 1 << 40);
-        pieces.push(encode_piece(alloc, &scheme, segment.as_slice(), index)?)?;
-    }
+    let segment = segment(alloc, len).expect(&rt, "a segment");
+    let pieces = five_pieces(&rt, alloc, &scheme, segment.as_slice()).expect(&rt, "pieces");
     let [first, second, third, fourth, fifth] = pieces.as_slice() else {
-        return Ok(());
+        panic!(&rt; "five pieces");
     };
     let held: &[(u8, &[u8])] = &[
         (0, first.as_slice()),
@@ -190,17 +233,10 @@ fn asks_in_the_next_window_who_answered(rt: HostRuntime) -> Result<(), Fail> {
         (2, third.as_slice()),
         (3, fourth.as_slice()),
     ];
-    let mut nodes = nodes(alloc, held, &[2, 7])?;
-    let heeded = remade(&rt, alloc, &scheme, &mut nodes, len, &[0, 1, 2, 3])?;
-    assert_eq!(&rt; heeded.answered.as_slice(), [0, 2].as_slice());
-    assert_eq!(&rt; nodes.asks().len(), 7);
-    let Some(made) = &heeded.made else {
-        panic!(&rt; "nothing was made");
-    };
-    for piece in made.fresh.as_slice() {
-        assert_eq!(&rt; piece.bytes.as_slice(), fifth.as_slice());
-    }
-    Ok(())
+    let heeded = heeded_twice(&rt, alloc, &scheme, len, held).expect(&rt, "answers");
+    assert!(&rt; heeded.0.answered.as_slice() == [0, 2].as_slice());
+    assert!(&rt; heeded.1 == 7);
+    assert!(&rt; is_made(&heeded.0, fifth.as_slice()));
 }
 
 // A piece of so many bytes for each place, in order.
@@ -254,7 +290,7 @@ fn tells_the_targets_that_are_kept(rt: HostRuntime) -> Result<(), Fail> {
             len: 2,
             limit: 2,
         };
-        is_asked(&rt, ask, wanted)?;
+        is_asked(&rt, ask, wanted);
     }
     Ok(())
 }

@@ -1,10 +1,10 @@
 // Calls, one a line: the name, the moment, and then the fields in their order.
-ghost use Rattle.std.specs.Prelude.{◌≡◌, ℕ, ◌<◌, length, slice_index_or, IfOk};
+ghost use Rattle.std.specs.Prelude.{◌≡◌, length, IfOk};
 ghost use Rattle.machine_step.specs.Step.{IsAsked};
 
 use crate::months::on_months;
 use crate::orders::order;
-use machine_calls::Call;
+use machine_calls::{Call, are_bytes};
 use order_limits::Keys;
 use sat_base::{CustomerId, Items, Moment, NodeId, SegId, Words64};
 use std::alloc::Global;
@@ -14,21 +14,37 @@ use trial_lines::{Fields, LineErr};
 pub fn call(alloc: Global, keys: &Keys, fields: &mut Fields<'_>) -> Result<Call, LineErr>
     ensures { IfOk result IsAsked }
 {
-    let call = match fields.word()? {
-        "add-node" => add_node(fields)?,
-        "add-customer" => add_customer(fields)?,
-        "begin" => begin(alloc, fields)?,
-        "commit" => commit(alloc, fields)?,
-        "get" => get(fields)?,
-        "delete" => delete(fields)?,
-        "settle" => settle(alloc, keys, fields)?,
-        "set-free" => set_free(fields)?,
-        "exit" => exit(fields)?,
-        "stop" => Call::Stop,
-        word => on_months(word, fields)?,
-    };
-    fields.end()?;
-    Ok(call)
+    let call = first_call(alloc, keys, fields)?;
+    whole(fields, call)
+}
+
+/// What was read of a line, unless more of it is left.
+pub(crate) fn whole<T: Drop>(fields: &Fields<'_>, read: T) -> Result<T, LineErr>
+    ensures { IfOk result (λ same. same ≡ read) }
+{
+    match fields.end() {
+        Ok(()) => Ok(read),
+        Err(e) => Err(e),
+    }
+}
+
+// The request that the next words say.
+fn first_call(alloc: Global, keys: &Keys, fields: &mut Fields<'_>) -> Result<Call, LineErr>
+    ensures { IfOk result IsAsked }
+{
+    match fields.word()? {
+        "add-node" => add_node(fields),
+        "add-customer" => add_customer(fields),
+        "begin" => begin(alloc, fields),
+        "commit" => commit(alloc, fields),
+        "get" => get(fields),
+        "delete" => delete(fields),
+        "settle" => settle(alloc, keys, fields),
+        "set-free" => set_free(fields),
+        "exit" => exit(fields),
+        "stop" => Ok(Call::Stop),
+        word => on_months(word, fields),
+    }
 }
 
 pub(crate) fn moment(fields: &mut Fields<'_>) -> Result<Moment, LineErr> {
@@ -132,13 +148,6 @@ fn delete(fields: &mut Fields<'_>) -> Result<Call, LineErr>
         request: fields.number()?,
         segment: SegId(fields.number()?),
     })
-}
-
-// A slice of bytes is one.
-fn are_bytes(bytes: &[u8])
-    ensures { (i : ℕ) → slice_index_or bytes.now i 0 < 256 }
-{
-    let _ = bytes;
 }
 
 // NOW NODE ORDER.

@@ -1,4 +1,5 @@
 // The records of a store, one a line: the name of the kind, and then the fields in their order.
+use crate::calls::whole;
 use crate::months::statement_of;
 use crate::plans::{audit_plan, digest, exit_plan, recheck_plan, repair_plan};
 use crate::segments::segment;
@@ -40,27 +41,31 @@ pub enum Record {
 
 /// The record that a line says.
 pub fn record_of(alloc: Global, fields: &mut Fields<'_>) -> Result<Record, LineErr> {
-    let record = match fields.word()? {
-        "settings" => Record::Settings(settings(fields)?),
-        "marks" => Record::Marks(marks(fields)?),
-        "node" => Record::Node(node(fields)?),
-        "customer" => Record::Customer(customer(fields)?),
-        "segment" => Record::Segment(segment(alloc, fields)?),
-        "settled" => Record::Settled(settled(fields)?),
-        "tally" => Record::Tally(tally(fields)?),
-        "statement" => Record::Statement(statement_of(fields)?),
-        "audit-plan" => Record::AuditPlan(audit_plan(alloc, fields)?),
-        "recheck-plan" => Record::RecheckPlan(recheck_plan(fields)?),
-        "repair-plan" => Record::RepairPlan(repair_plan(alloc, fields)?),
-        "containment" => Record::Containment(containment(fields)?),
-        "kept" => Record::Kept(kept(alloc, fields)?),
-        "exit-plan" => Record::ExitPlan(exit_plan(alloc, fields)?),
-        "left" => Record::Left(left(fields)?),
-        "tariff" => Record::Tariff(tariff(fields)?),
-        _ => return Err(LineErr::Bad),
-    };
-    fields.end()?;
-    Ok(record)
+    let record = first_record(alloc, fields)?;
+    whole(fields, record)
+}
+
+// The record that the next words say.
+fn first_record(alloc: Global, fields: &mut Fields<'_>) -> Result<Record, LineErr> {
+    match fields.word()? {
+        "settings" => Ok(Record::Settings(settings(fields)?)),
+        "marks" => Ok(Record::Marks(marks(fields)?)),
+        "node" => Ok(Record::Node(node(fields)?)),
+        "customer" => Ok(Record::Customer(customer(fields)?)),
+        "segment" => Ok(Record::Segment(segment(alloc, fields)?)),
+        "settled" => Ok(Record::Settled(settled(fields)?)),
+        "tally" => Ok(Record::Tally(tally(fields)?)),
+        "statement" => Ok(Record::Statement(statement_of(fields)?)),
+        "audit-plan" => Ok(Record::AuditPlan(audit_plan(alloc, fields)?)),
+        "recheck-plan" => Ok(Record::RecheckPlan(recheck_plan(fields)?)),
+        "repair-plan" => Ok(Record::RepairPlan(repair_plan(alloc, fields)?)),
+        "containment" => Ok(Record::Containment(containment(fields)?)),
+        "kept" => Ok(Record::Kept(kept(alloc, fields)?)),
+        "exit-plan" => Ok(Record::ExitPlan(exit_plan(alloc, fields)?)),
+        "left" => Ok(Record::Left(left(fields)?)),
+        "tariff" => Ok(Record::Tariff(tariff(fields)?)),
+        _ => Err(LineErr::Bad),
+    }
 }
 
 // A row comes behind the others, or in place of the one that stands there.

@@ -1,13 +1,14 @@
 // As many altered answers as can be, and one more.
-ghost use Rattle.std.specs.Prelude.{◌≡◌, ◌*◌, length, IfOk};
+ghost use Rattle.std.specs.Prelude.{◌≡◌, ◌<◌, ◌*◌, length, All, IfOk};
+ghost use Rattle.bw_decode.specs.Altered.{indexes_of};
+ghost use Rattle.bw_decode.specs.Near.{Rises};
 
-use crate::indexes::{are_rising, indexes_in};
+use crate::indexes::are_in_order;
 use crate::random::Random;
-use crate::stripes::assert_same;
-use bw_decode::stripe::stripe;
+use crate::stripes::{assert_same, decode};
 use bw_decode::{Nearness, Scratch};
 use rs_stripe::encode_share;
-use sat_base::{Bytes, Scheme, Share};
+use sat_base::{Bytes, NoMemory, Scheme, Share};
 use std::alloc::Global;
 use std::process::Abort;
 use std::test::Fail;
@@ -66,30 +67,59 @@ fn random_stripe(alloc: Global, scheme: &Scheme) -> Result<Vec<u8>, Fail>
     Ok(stripe)
 }
 
-// 25 of 80 answers are altered: they are found, and the stripe. The number of systems is told.
+// Decodes, and tells the number of systems.
+fn decoded(
+    alloc: Global,
+    scheme: &Scheme,
+    answers: &[Share],
+    out: &mut [u8],
+    blamed: &mut [bool],
+) -> Result<(Nearness, u64), NoMemory>
+    requires rising { Rises (indexes_of answers.now) }
+    requires below { All (λ index. index < scheme.now.n) (indexes_of answers.now) }
+    requires out { length out.old ≡ scheme.now.k * scheme.now.share }
+    requires blamed { length blamed.old ≡ length answers.now }
+{
+    let mut scratch = Scratch::new(alloc, scheme)?;
+    let found = decode(&mut scratch, scheme, answers, out, blamed);
+    Ok((found, scratch.solves()))
+}
+
+// Whether each third is marked, up to the 25th.
+fn are_thirds(blamed: &[bool; 80]) -> bool {
+    let mut same = true;
+    for i in 0..80usize {
+        same = same && blamed[i] == (i % 3 == 0 && i < 75);
+    }
+    same
+}
+
+// Finds the stripe, and the 25 of 80 answers that are altered. Tells the number of systems.
+fn solved(
+    rt: &impl Abort,
+    alloc: Global,
+    scheme: &Scheme,
+    bytes: &[u8],
+    answers: &[Share],
+) -> Result<u64, NoMemory>
+    requires { length bytes.now ≡ scheme.now.k * scheme.now.share }
+{
+    let rise = are_in_order(alloc, answers, scheme.n)?;
+    assert!(rt; rise && answers.len() == 80);
+    let mut out = Vec::from_elem(alloc, 0, bytes.len())?;
+    let mut blamed = [false; 80];
+    let (found, solves) = decoded(alloc, scheme, answers, out.as_mut_slice(), &mut blamed)?;
+    assert!(rt; found == Nearness::Near && out.as_slice() == bytes);
+    assert!(rt; are_thirds(&blamed));
+    Ok(solves)
+}
+
+// The number of systems where 25 of 80 answers are altered.
 fn systems_solved(rt: &impl Abort, alloc: Global, altered: Altered) -> Result<u64, Fail> {
     let scheme = Scheme::check(29, 35, 80, 110, 256)?;
     let bytes = random_stripe(alloc, &scheme)?;
     let answers = thirds_altered(rt, alloc, &scheme, bytes.as_slice(), 25, altered)?;
-    let points = indexes_in(alloc, answers.as_slice())?;
-    assert!(rt; answers.len() == 80);
-    assert!(rt; are_rising(points.as_slice(), scheme.n));
-    let mut scratch = Scratch::new(alloc, &scheme)?;
-    let mut out = Vec::from_elem(alloc, 0, bytes.len())?;
-    let mut blamed = [false; 80];
-    let found = stripe(
-        &mut scratch,
-        &scheme,
-        answers.as_slice(),
-        out.as_mut_slice(),
-        &mut blamed,
-    );
-    assert_eq!(rt; found, Nearness::Near);
-    assert!(rt; out.as_slice() == bytes.as_slice());
-    for i in 0..80usize {
-        assert_eq!(rt; blamed[i], i % 3 == 0 && i < 75, "answer {i}");
-    }
-    Ok(scratch.solves())
+    Ok(solved(rt, alloc, &scheme, bytes.as_slice(), answers.as_slice())?)
 }
 
 #[test]

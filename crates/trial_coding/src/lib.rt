@@ -1,14 +1,21 @@
-//! Cases of decoding and rebuilding: worked examples, searches through all codewords, stripes beside the plain decoding of
-//! their columns, bad pieces, and windows beside the whole. They stand here, so that `bw_decode` and `repair_core` are
-//! proved once and not again with their tests.
+//! Cases of coding, from the field's products up to rebuilding: worked examples, the shares of another library, a
+//! search through all codewords, stripes beside the plain decoding of their columns, verdicts, bad pieces, and windows
+//! beside the whole. They stand here, so that `gf256`, `gf_linear`, `rs_stripe`, `bw_decode`, `audit_core` and
+//! `repair_core` are proved once and not again with their tests.
 #![tactic(auto)]
 
 #[cfg(test)]
 mod columns;
 #[cfg(test)]
+mod encoding;
+#[cfg(test)]
 mod errors;
 #[cfg(test)]
+mod field;
+#[cfg(test)]
 mod indexes;
+#[cfg(test)]
+mod judging;
 #[cfg(test)]
 mod plain;
 #[cfg(test)]
@@ -17,6 +24,10 @@ mod random;
 mod repairs;
 #[cfg(test)]
 mod stripes;
+#[cfg(test)]
+mod systems;
+#[cfg(test)]
+mod vectors;
 #[cfg(test)]
 mod whole;
 #[cfg(test)]

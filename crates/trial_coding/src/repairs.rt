@@ -22,8 +22,8 @@ pub fn shares(alloc: Global, pieces: Pieces) -> Result<Vec<Share>, NoMemory> {
     Ok(shares)
 }
 
-// Places of these indexes.
-fn places(alloc: Global, indexes: &[u8]) -> Result<Items<At>, NoMemory>
+/// Places of these indexes.
+pub fn places(alloc: Global, indexes: &[u8]) -> Result<Items<At>, NoMemory>
     ensures { IfOk result (λ places. place_indexes places ≡ indexes.now) }
 {
     let mut places = Vec::new(alloc);

@@ -1,5 +1,7 @@
 // Stripes beside the decoding of each of their columns by itself.
-ghost use Rattle.std.specs.Prelude.{◌≡◌, ◌*◌, length};
+ghost use Rattle.std.specs.Prelude.{◌≡◌, ◌≤◌, ◌<◌, ◌*◌, length, All};
+ghost use Rattle.bw_decode.specs.Altered.{indexes_of};
+ghost use Rattle.bw_decode.specs.Near.{Rises};
 
 use crate::indexes::{are_rising, indexes_in};
 use crate::plain::decode_columns;
@@ -55,6 +57,68 @@ fn random_answers(
     Ok(answers)
 }
 
+/// The decoding, which tells only what it says.
+pub fn decode(
+    scratch: &mut Scratch,
+    scheme: &Scheme,
+    answers: &[Share],
+    out: &mut [u8],
+    blamed: &mut [bool],
+) -> Nearness
+    requires room { scheme.now.n ≤ scratch.old.points }
+    requires rising { Rises (indexes_of answers.now) }
+    requires below { All (λ index. index < scheme.now.n) (indexes_of answers.now) }
+    requires out { length out.old ≡ scheme.now.k * scheme.now.share }
+    requires blamed { length blamed.old ≡ length answers.now }
+    ensures { scratch.new.points ≡ scratch.old.points }
+{
+    stripe(scratch, scheme, answers, out, blamed)
+}
+
+// What a decoding says, and what it writes of at most 128 bytes and marks.
+#[derive(Clone, Copy, PartialEq, Eq)]
+struct Said {
+    found: Nearness,
+    out: [u8; 128],
+    blamed: [bool; 128],
+}
+
+fn decoded(scratch: &mut Scratch, scheme: &Scheme, answers: &[Share]) -> Said
+    requires room { scheme.now.n ≤ scratch.old.points }
+    requires rising { Rises (indexes_of answers.now) }
+    requires below { All (λ index. index < scheme.now.n) (indexes_of answers.now) }
+    requires few { length answers.now ≤ 128 }
+    requires small { scheme.now.k * scheme.now.share ≤ 128 }
+    ensures { scratch.new.points ≡ scratch.old.points }
+{
+    let len = usize::from(scheme.k) * usize::from(scheme.share);
+    let (mut out, mut blamed) = ([0; 128], [false; 128]);
+    let marks = &mut blamed[..answers.len()];
+    let found = decode(scratch, scheme, answers, &mut out[..len], marks);
+    Said { found, out, blamed }
+}
+
+fn decoded_by_columns(
+    rt: &impl Abort,
+    scratch: &mut Scratch,
+    scheme: &Scheme,
+    answers: &[Share],
+    points: &[u8],
+) -> Said
+    requires room { length points.now ≤ scratch.old.points }
+    requires rising { Rises points.now }
+    requires below { All (λ index. index < scheme.now.n) points.now }
+    requires answers { length answers.now ≡ length points.now }
+    requires few { length answers.now ≤ 128 }
+    requires small { scheme.now.k * scheme.now.share ≤ 128 }
+{
+    let len = usize::from(scheme.k) * usize::from(scheme.share);
+    let (mut out, mut blamed) = ([0; 128], [false; 128]);
+    let marks = &mut blamed[..answers.len()];
+    let found = decode_columns(rt, scratch, scheme, answers, points, &mut out[..len], marks);
+    Said { found, out, blamed }
+}
+
 /// Both decodings say the same of the answers. It tells what they say.
 pub fn assert_same(
     rt: &impl Abort,
@@ -63,37 +127,15 @@ pub fn assert_same(
     answers: &[Share],
 ) -> Result<Nearness, Fail> {
     assert!(rt; answers.len() <= usize::from(scheme.n));
+    assert!(rt; usize::from(scheme.k) * usize::from(scheme.share) <= 128);
     let points = indexes_in(alloc, answers)?;
-    let points = points.as_slice();
-    assert!(rt; are_rising(points, scheme.n));
-    let len = usize::from(scheme.k) * usize::from(scheme.share);
+    assert!(rt; are_rising(points.as_slice(), scheme.n));
     let mut scratch = Scratch::new(alloc, scheme)?;
-    let mut out = Vec::from_elem(alloc, 0, len)?;
-    let mut blamed = Vec::from_elem(alloc, false, answers.len())?;
-    let found = stripe(
-        &mut scratch,
-        scheme,
-        answers,
-        out.as_mut_slice(),
-        blamed.as_mut_slice(),
-    );
-    let mut plain_out = Vec::from_elem(alloc, 0, len)?;
-    let mut plain_blamed = Vec::from_elem(alloc, false, answers.len())?;
-    let plain_found = decode_columns(
-        rt,
-        &mut scratch,
-        scheme,
-        answers,
-        points,
-        plain_out.as_mut_slice(),
-        plain_blamed.as_mut_slice(),
-    );
-    assert_eq!(rt; found, plain_found);
-    if found == Nearness::Near {
-        assert!(rt; out.as_slice() == plain_out.as_slice());
-        assert!(rt; blamed.as_slice() == plain_blamed.as_slice());
-    }
-    Ok(found)
+    let one = decoded(&mut scratch, scheme, answers);
+    let other = decoded_by_columns(rt, &mut scratch, scheme, answers, points.as_slice());
+    assert!(rt; one.found == other.found);
+    assert!(rt; one.found == Nearness::Unclear || one == other);
+    Ok(one.found)
 }
 
 #[test]

@@ -26,6 +26,38 @@ pub fn whole(
     Ok(rebuild(alloc, &mut scratch, scheme, &plan, pieces))
 }
 
+// Whether these are the shares 4 and 5.
+fn are_fresh(fresh: &[Share], fourth: &[u8], fifth: &[u8]) -> bool {
+    if fresh.len() != 2 || fresh[0].index != 4 || fresh[1].index != 5 {
+        return false;
+    }
+    fresh[0].bytes.as_slice() == fourth && fresh[1].bytes.as_slice() == fifth
+}
+
+fn is_rebuilt(made: &Rebuilt, [bytes, blamed, fourth, fifth]: [&[u8]; 4]) -> bool {
+    made.bytes.as_slice() == bytes
+        && made.blamed.as_slice() == blamed
+        && are_fresh(made.fresh.as_slice(), fourth, fifth)
+}
+
+// Whether a segment of `len` bytes is rebuilt with these bytes, these blamed indexes, and these shares 4 and 5.
+fn are_rebuilt(
+    rt: &impl Abort,
+    alloc: Global,
+    scheme: &Scheme,
+    len: u64,
+    pieces: Pieces,
+    want: [&[u8]; 4],
+) -> Result<bool, NoMemory> {
+    let pieces = shares(alloc, pieces)?;
+    Ok(
+        match whole(rt, alloc, scheme, len, &[4, 5], pieces.as_slice())? {
+            Ok(made) => is_rebuilt(&made, want),
+            Err(_) => false,
+        },
+    )
+}
+
 // The data 1 and 2 have the shares 1, 2, 7, 4, 13 and 14, and the data 4 and 0 the shares 4, 0, 12, 8, 20 and 16.
 #[test]
 fn rebuilds_whole(rt: HostRuntime) -> Result<(), Fail> {
@@ -97,16 +129,15 @@ fn rebuilds_whole(rt: HostRuntime) -> Result<(), Fail> {
         ),
     ];
     for (name, len, pieces, bytes, blamed, fourth, fifth) in cases {
-        let pieces = shares(alloc, pieces)?;
-        let made = whole(&rt, alloc, &scheme, len, &[4, 5], pieces.as_slice())?;
-        let made = made.expect(&rt, name);
-        assert_eq!(rt; made.bytes.as_slice(), bytes, "{name}");
-        assert_eq!(rt; made.blamed.as_slice(), blamed, "{name}");
-        let fresh = made.fresh.as_slice();
-        assert_eq!(rt; fresh.len(), 2, "{name}");
-        assert_eq!(rt; (fresh[0].index, fresh[1].index), (4, 5), "{name}");
-        assert_eq!(rt; fresh[0].bytes.as_slice(), fourth, "{name}");
-        assert_eq!(rt; fresh[1].bytes.as_slice(), fifth, "{name}");
+        let right = are_rebuilt(
+            &rt,
+            alloc,
+            &scheme,
+            len,
+            pieces,
+            [bytes, blamed, fourth, fifth],
+        )?;
+        assert!(rt; right, "{name}");
     }
     Ok(())
 }

@@ -63,45 +63,82 @@ pub fn begin(
     Rebuilder::new(alloc, &repair.scheme, &plan, window)
 }
 
-// Rebuilds in windows of one stripe.
-fn remade(
+// The window of these pieces.
+fn next_of(
     rt: &impl Abort,
     alloc: Global,
-    scheme: Scheme,
+    repair: &Repair,
+    rebuilder: Rebuilder,
+    scratch: &mut Scratch,
+    pieces: Pieces,
+) -> Result<Result<Rebuilder, WindowErr>, NoMemory>
+    requires room { repair.now.scheme.n ≤ scratch.old.points }
+    requires kept { IsKept repair.now.scheme.k repair.now.scheme.share repair.now.scheme.n repair.now.count repair.now.sources.now rebuilder }
+    ensures kept { IfOk result (λ next. IfOk next (IsKept repair.now.scheme.k repair.now.scheme.share repair.now.scheme.n
+        repair.now.count repair.now.sources.now)) }
+    ensures points { scratch.new.points ≡ scratch.old.points }
+{
+    let shares = shares(alloc, pieces)?;
+    next(rt, alloc, repair, rebuilder, scratch, shares.as_slice())
+}
+
+fn remade_in(
+    rt: &impl Abort,
+    alloc: Global,
+    scratch: &mut Scratch,
+    repair: &Repair,
     len: u64,
-    sources: &[u8],
     windows: &[Pieces],
-) -> Result<Result<Remade, WindowErr>, NoMemory> {
-    assert!(rt; len <= 1 << 40);
-    let count = scheme.stripes(len);
-    let repair = Repair {
-        scheme,
-        sources,
-        count,
-    };
-    let mut scratch = Scratch::new(alloc, &scheme)?;
-    let mut rebuilder = begin(rt, alloc, &repair, len, 1)?;
+) -> Result<Result<Remade, WindowErr>, NoMemory>
+    requires room { repair.now.scheme.n ≤ scratch.old.points }
+    requires len { len ≤ 2 ^ 40 }
+    requires count { repair.now.count ≡ stripe_count repair.now.scheme.k repair.now.scheme.share len }
+{
+    let mut rebuilder = begin(rt, alloc, repair, len, 1)?;
     for pieces in windows {
-        let shares = shares(alloc, pieces)?;
-        match next(
-            rt,
-            alloc,
-            &repair,
-            rebuilder,
-            &mut scratch,
-            shares.as_slice(),
-        )? {
+        match next_of(rt, alloc, repair, rebuilder, scratch, pieces)? {
             Ok(next) => rebuilder = next,
             Err(err) => return Ok(Err(err)),
         }
     }
-    assert!(rt; rebuilder.done() == count, "a window is left");
+    assert!(rt; rebuilder.done() == repair.count, "a window is left");
     Ok(Ok(rebuilder.finish()))
+}
+
+// Rebuilds a segment of 3 bytes from four sources, in windows of one stripe.
+fn remade(
+    rt: &impl Abort,
+    alloc: Global,
+    windows: &[Pieces],
+) -> Result<Result<Remade, WindowErr>, Fail> {
+    let scheme = Scheme::check(2, 2, 3, 6, 1)?;
+    let repair = Repair {
+        scheme,
+        sources: &[0, 1, 2, 3],
+        count: scheme.stripes(3),
+    };
+    let mut scratch = Scratch::new(alloc, &scheme)?;
+    Ok(remade_in(rt, alloc, &mut scratch, &repair, 3, windows)?)
+}
+
+// Whether these are blamed, and the fresh piece is the one.
+fn is_remade(made: &Remade, blamed: &[u8]) -> bool {
+    let fresh = made.fresh.as_slice();
+    if fresh.len() != 1 || fresh[0].index != 4 {
+        return false;
+    }
+    made.blamed.as_slice() == blamed && fresh[0].bytes.as_slice() == [13, 20].as_slice()
+}
+
+fn blames(rt: &impl Abort, alloc: Global, windows: &[Pieces], blamed: &[u8]) -> Result<bool, Fail> {
+    Ok(match remade(rt, alloc, windows)? {
+        Ok(made) => is_remade(&made, blamed),
+        Err(_) => false,
+    })
 }
 
 #[test]
 fn rebuilds_in_windows(rt: HostRuntime) -> Result<(), Fail> {
-    let scheme = Scheme::check(2, 2, 3, 6, 1)?;
     let alloc = rt.alloc();
     let first: Pieces = &[(0, &[1]), (1, &[2]), (2, &[7]), (3, &[4])];
     let altered: Pieces = &[(0, &[4]), (1, &[0]), (2, &[12]), (3, &[9])];
@@ -114,28 +151,13 @@ fn rebuilds_in_windows(rt: HostRuntime) -> Result<(), Fail> {
         (&[(0, &[1]), (1, &[]), (2, &[7]), (3, &[4])], silent, &[1]),
     ];
     for (one, other, blamed) in cases {
-        let windows = [one, other];
-        let made = remade(&rt, alloc, scheme, 3, &[0, 1, 2, 3], &windows)?;
-        let made = made.expect(&rt, "two windows");
-        assert_eq!(rt; made.blamed.as_slice(), blamed);
-        let fresh = made.fresh.as_slice();
-        assert_eq!(rt; fresh.len(), 1);
-        assert_eq!(rt;
-            (fresh[0].index, fresh[0].bytes.as_slice()),
-            (4, [13, 20].as_slice())
-        );
+        let right = blames(&rt, alloc, &[one, other], blamed)?;
+        assert!(rt; right, "{blamed:?}");
     }
-    let few = remade(
-        &rt,
-        alloc,
-        scheme,
-        3,
-        &[0, 1, 2, 3],
-        &[first, &[(2, &[12])]],
-    )?;
-    assert_eq!(rt; few.err(), Some(WindowErr::Few { answered: 1 }));
+    let few = remade(&rt, alloc, &[first, &[(2, &[12])]])?.err();
+    assert_eq!(rt; few, Some(WindowErr::Few { answered: 1 }));
     let unclear = [first, &[(0, &[4]), (1, &[1]), (2, &[12])]];
-    let unclear = remade(&rt, alloc, scheme, 3, &[0, 1, 2, 3], &unclear)?;
-    assert_eq!(rt; unclear.err(), Some(WindowErr::Unclear { stripe: 1 }));
+    let unclear = remade(&rt, alloc, &unclear)?.err();
+    assert_eq!(rt; unclear, Some(WindowErr::Unclear { stripe: 1 }));
     Ok(())
 }

@@ -1,10 +1,10 @@
 // Databases and files that a keeper has to refuse, or to answer with a fault, without harm to what is there.
 use crate::changes::several;
-use crate::files::{Disk, connect};
+use crate::files::{Fused, unopened};
 use crate::order::made_by;
 use sat_base::{Committed, Keeper, Loaded};
 use sqlite::Files;
-use sqlite_disk::{Disk as _, Fuse, Memory};
+use sqlite_disk::{Disk, Fuse, Memory};
 use std::alloc::Global;
 use std::io;
 use std::test::Fail;
@@ -44,7 +44,7 @@ fn another_table_of_the_name_is_left_alone(rt: HostRuntime) -> Result<(), Fail> 
 }
 
 /// A file with these bytes beside an empty log.
-fn files_with(alloc: Global, bytes: &[u8]) -> io::Result<Files<Disk>> {
+fn files_with(alloc: Global, bytes: &[u8]) -> io::Result<Files<Fused>> {
     let mut db = Fuse::new(Memory::new(alloc), u64::MAX);
     db.write_at(0, bytes)?;
     db.sync()?;
@@ -57,7 +57,7 @@ fn a_file_that_is_no_database_is_refused_and_kept(rt: HostRuntime) -> Result<(),
     let alloc = rt.alloc();
     for bytes in ["rows of another program", "SQLite format 3\0, and no more"] {
         let files = files_with(alloc, bytes.as_bytes())?;
-        let Err(Some(left)) = connect(alloc, files) else {
+        let Some(left) = unopened(alloc, files) else {
             return Err("opened")?;
         };
         assert_eq!(rt; left.db.inner().bytes(), bytes.as_bytes());

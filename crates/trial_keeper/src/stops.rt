@@ -2,11 +2,11 @@
 ghost use Rattle.std.specs.Prelude.{◌≡◌, false};
 
 use crate::changes::put;
-use crate::files::{Disk, connect, empty_files, files_of};
+use crate::files::{connect, empty_files, files_of};
 use keeper_sqlite::KeeperSqlite;
 use sat_base::{Change, Committed, Items, Keeper, KeeperMem, Loaded, NoMemory, Row};
 use sqlite::{Alter, Connection, Files};
-use sqlite_disk::Crash;
+use sqlite_disk::{Crash, Disk};
 use std::alloc::Global;
 use std::test::Fail;
 
@@ -45,7 +45,10 @@ fn rows_of<S: Alter + Drop>(alloc: Global, conn: Connection<S>) -> Option<Items<
 }
 
 /// Crashes, opens the files again, and loads what they hold.
-fn rows_after_crash(alloc: Global, mut files: Files<Disk>) -> Option<Items<Row>> {
+fn rows_after_crash<D: Disk + Crash + Drop>(
+    alloc: Global,
+    mut files: Files<D>,
+) -> Option<Items<Row>> {
     files.log.crash();
     files.db.crash();
     match connect(alloc, files) {
@@ -55,7 +58,11 @@ fn rows_after_crash(alloc: Global, mut files: Files<Disk>) -> Option<Items<Row>>
 }
 
 /// Whether the files hold after a crash what so many commits made, or one more.
-fn holds_after(alloc: Global, files: Files<Disk>, commits: u8) -> Result<bool, Fail> {
+fn holds_after<D: Disk + Crash + Drop>(
+    alloc: Global,
+    files: Files<D>,
+    commits: u8,
+) -> Result<bool, Fail> {
     match rows_after_crash(alloc, files) {
         Some(rows) => Ok(
             are_after(alloc, rows.as_slice(), commits)?
@@ -124,7 +131,10 @@ fn is_refused<S: Alter>(conn: &mut Connection<S>) -> bool
 
 /// What the files hold where a keeper is refused. It drops them then, so they are seen where its statement is refused at
 /// the same call.
-fn holds_where_refused(alloc: Global, files: Files<Disk>) -> Result<bool, Fail> {
+fn holds_where_refused<D: Disk + Crash + Drop>(
+    alloc: Global,
+    files: Files<D>,
+) -> Result<bool, Fail> {
     let Ok(mut conn) = connect(alloc, files) else {
         return Ok(false);
     };
@@ -148,9 +158,13 @@ fn verdict(stopped: bool, good: bool) -> Outcome {
     }
 }
 
-/// Makes the table and commits, over files each of which answers so many calls.
-fn commit_until_stopped(alloc: Global, log: u64, db: u64) -> Result<Outcome, Fail> {
-    let conn = match connect(alloc, empty_files(alloc, log, db)) {
+/// Makes the table and commits, over empty files. `others` are such files too.
+fn commit_until_stopped<D: Disk + Crash + Drop>(
+    alloc: Global,
+    files: Files<D>,
+    others: Files<D>,
+) -> Result<Outcome, Fail> {
+    let conn = match connect(alloc, files) {
         Ok(conn) => conn,
         Err(Some(files)) => return Ok(verdict(true, holds_after(alloc, files, 0)?)),
         Err(None) => return Ok(Outcome::Wrong),
@@ -161,7 +175,7 @@ fn commit_until_stopped(alloc: Global, log: u64, db: u64) -> Result<Outcome, Fai
             Ok(verdict(end.done < COMMITS, end.counted && good))
         }
         None => {
-            let good = holds_where_refused(alloc, empty_files(alloc, log, db))?;
+            let good = holds_where_refused(alloc, others)?;
             Ok(verdict(true, good))
         }
     }
@@ -178,7 +192,8 @@ fn a_stop_at_each_call_leaves_what_was_acknowledged(rt: HostRuntime) -> Result<(
             } else {
                 (u64::MAX, calls)
             };
-            match commit_until_stopped(alloc, log, db)? {
+            let (files, others) = (empty_files(alloc, log, db), empty_files(alloc, log, db));
+            match commit_until_stopped(alloc, files, others)? {
                 Outcome::Stopped => {}
                 Outcome::Ended => {
                     ended = true;

@@ -23,8 +23,8 @@
 //! - Empty lines and those that begin with `#` are answered by themselves, all others that are taken by `noted`, and the
 //!   rest by `bad-line`.
 //!
-//! In a text `\r`, `\n` and `\xHH` are bytes, and `<COUNT TEXT>` is a text so often. The cases of `init` and `serve` are its
-//! stored input and output. Nothing is promised beyond the contract of `satellite`.
+//! In a text `\r`, `\n` and `\xHH` are bytes, and `<COUNT TEXT>` is a text so often. The cases of all commands are its stored
+//! input and output. Nothing is promised beyond the contract of `satellite`.
 #![tactic(auto)]
 
 mod ended;

@@ -1,6 +1,6 @@
 // Requests, as texts.
 use anyhow::Result;
-use order_limits::{Action, Keys, Limit, Order};
+use order_limits::{Action, Keys, LIFE, Limit, Order};
 use sat_base::{CustomerId, NodeId, SegId, Serial};
 use std::alloc::Global;
 
@@ -12,9 +12,6 @@ pub const APRIL: u64 = 1_775_001_600;
 
 // The secret of the store.
 const SECRET: [u8; 32] = [0; 32];
-
-// A limit's life in seconds.
-const LIFE: u64 = 86_400;
 
 fn post(alloc: Global, path: &str, key: &[u8; 32], body: &str) -> Result<Vec<u8>> {
     let key = hex::encode(alloc, key)?;
@@ -30,6 +27,50 @@ pub fn node(alloc: Global) -> Result<Vec<u8>> {
     let key = Keys::new(SECRET).operator();
     let body = r#"{"request":1,"addr":"10.0.1.1","port":7001,"free":1000}"#;
     post(alloc, "/op/nodes", &key, body)
+}
+
+/// Adds a node of this number, whose address has it as third part, at a port.
+pub fn node_at(alloc: Global, number: u8, port: u16) -> Result<Vec<u8>> {
+    let body = format!(in alloc;
+        "{{\"request\":{number},\"addr\":\"127.0.{number}.1\",\"port\":{port},\"free\":1000000}}"
+    )?;
+    post(alloc, "/op/nodes", &Keys::new(SECRET).operator(), &body)
+}
+
+/// Adds a customer.
+pub fn customer(alloc: Global, request: u64) -> Result<Vec<u8>> {
+    let body = format!(in alloc; "{{\"request\":{request}}}")?;
+    post(alloc, "/op/customers", &Keys::new(SECRET).operator(), &body)
+}
+
+// The first customer asks.
+fn post_segment(alloc: Global, path: &str, body: &str) -> Result<Vec<u8>> {
+    post(
+        alloc,
+        path,
+        &Keys::new(SECRET).customer(CustomerId(1)),
+        body,
+    )
+}
+
+/// The first customer begins a segment of a stripe.
+pub fn begin(alloc: Global) -> Result<Vec<u8>> {
+    post_segment(alloc, "/c/1/segments", r#"{"request":1,"len":512}"#)
+}
+
+/// It commits the first five pieces of it.
+pub fn commit(alloc: Global) -> Result<Vec<u8>> {
+    post_segment(
+        alloc,
+        "/c/1/segments/1/commit",
+        r#"{"request":2,"pieces":[0,1,2,3,4]}"#,
+    )
+}
+
+/// It asks for the pieces.
+pub fn get(alloc: Global, request: u64) -> Result<Vec<u8>> {
+    let body = format!(in alloc; "{{\"request\":{request}}}")?;
+    post_segment(alloc, "/c/1/segments/1/get", &body)
 }
 
 /// Closes March.

@@ -1,5 +1,5 @@
 // Runs over a port.
-ghost use Rattle.std.specs.Prelude.{◌≤◌, length};
+ghost use Rattle.std.specs.Prelude.{◌≤◌, length, IfOk};
 
 use crate::asking::NOW;
 use anyhow::{Result, bail};
@@ -20,25 +20,12 @@ use trial_lines::text_of;
 // How many seconds a client waits for an answer before it gives up.
 const PATIENCE: u64 = 20;
 
-// The most lanes of a run.
-const LANES: usize = 16;
-
-const INIT: &str = "init --store s --k 2 --m 3 --o 4 --n 6";
+const INIT: &str = "init --store s --k 2 --m 4 --o 5 --n 6";
 
 const SECRET: &str = "0000000000000000000000000000000000000000000000000000000000000000";
 
-type Ran<K> = Ended<
-    MemConsole,
-    K,
-    TcpLane<HostRuntime>,
-    MemNodes,
-    MemClock,
-    MemWords,
-    MemTicks,
-    OpenGate,
->;
-
-fn line_of(alloc: Global, words: &str) -> Result<Line> {
+/// The words of a command.
+pub fn line_of(alloc: Global, words: &str) -> Result<Line> {
     let mut line = Line::new(alloc);
     for word in words.split_ascii_whitespace() {
         if line.push(word).is_err() {
@@ -62,8 +49,16 @@ fn kit(alloc: Global) -> Result<Kit<MemNodes, MemClock, MemWords, MemTicks>> {
     })
 }
 
-// Runs the command over any world.
-fn run_over<
+/// What is looked at of what a run leaves.
+#[derive(Drop)]
+pub struct Left<C, K> {
+    pub status: u8,
+    pub console: C,
+    pub keeper: K,
+}
+
+/// Runs the command over any world. All that isn't looked at is let go here, where the prover doesn't look into it.
+pub fn run_over<
     C: Link,
     K: Keeper + Send,
     L: Lane,
@@ -73,78 +68,15 @@ fn run_over<
     I: Ticks + Send,
     G: Gate,
     R: Threads + Wait + Sync,
->(
-    rt: &R,
-    alloc: Global,
-    line: &Line,
-    world: World<C, K, L, N, T, W, I, G>,
-) -> Ended<C, K, L, N, T, W, I, G>
+>(rt: &R, alloc: Global, line: &Line, world: World<C, K, L, N, T, W, I, G>) -> Left<C, K>
     requires { length world.posts.items ≤ 16 }
 {
-    satellite(rt, alloc, line, world)
-}
-
-// What is run, and the moment of all clocks.
-#[derive(Clone, Copy)]
-pub struct Command<'a> {
-    pub words: &'a str,
-    pub now: u64,
-}
-
-// Runs a command over a keeper and lanes.
-fn run<K: Keeper + Send, R: Threads + Wait + Sync>(
-    handles: &R,
-    alloc: Global,
-    command: Command<'_>,
-    keeper: K,
-    lanes: Vec<TcpLane<HostRuntime>>,
-) -> Result<Ran<K>> {
-    let mut posts = Vec::new(alloc);
-    for lane in lanes {
-        posts.push(Post {
-            lane,
-            clock: clock(alloc, command.now)?,
-            words: MemWords::of(Vec::new(alloc), Vec::new(alloc)),
-        })?;
-    }
-    if posts.len() > LANES {
-        bail!("too many lanes");
-    }
-    let world = World {
-        console: MemConsole::of(alloc, Vec::new(alloc), Vec::new(alloc)),
-        keeper,
-        posts,
-        audit: kit(alloc)?,
-        repair: kit(alloc)?,
-        tally: kit(alloc)?,
-        gate: OpenGate::of(),
-    };
-    Ok(run_over(handles, alloc, &line_of(alloc, command.words)?, world))
-}
-
-fn tell(rt: &HostRuntime, what: &str, bytes: &[u8]) -> Result<()> {
-    let Ok(text) = text_of(rt.alloc(), bytes) else {
-        bail!("out of memory");
-    };
-    println!(rt; "{what} {text}")?;
-    Ok(())
-}
-
-// What is looked at of what a run leaves.
-#[derive(Drop)]
-struct Left<K> {
-    keeper: K,
-    status: u8,
-    console: MemConsole,
-}
-
-fn left_of<K: Keeper>(ran: Ran<K>) -> Left<K> {
     let Ended {
         status,
         world,
         term: _,
         drilled: _,
-    } = ran;
+    } = satellite(rt, alloc, line, world);
     let World {
         console,
         keeper,
@@ -155,10 +87,62 @@ fn left_of<K: Keeper>(ran: Ran<K>) -> Left<K> {
         gate: _,
     } = world;
     Left {
-        keeper,
         status,
         console,
+        keeper,
     }
+}
+
+// What is run, and the moment of all clocks.
+#[derive(Clone, Copy)]
+pub struct Command<'a> {
+    pub words: &'a str,
+    pub now: u64,
+}
+
+type Lanes = Vec<Post<TcpLane<HostRuntime>, MemClock, MemWords>>;
+
+// What the worker of a lane has, if there is a lane.
+fn posts(alloc: Global, lane: Option<TcpLane<HostRuntime>>, now: u64) -> Result<Lanes>
+    ensures { IfOk result (λ posts. length posts.items ≤ 16) }
+{
+    let clock = clock(alloc, now)?;
+    let words = MemWords::of(Vec::new(alloc), Vec::new(alloc));
+    match lane {
+        Some(lane) => Ok(Vec::from_array(alloc, [Post { lane, clock, words }])?),
+        None => Ok(Vec::new(alloc)),
+    }
+}
+
+// Runs a command over a keeper and a lane, if there is one.
+fn run<K: Keeper + Send, R: Threads + Wait + Sync>(
+    handles: &R,
+    alloc: Global,
+    command: Command<'_>,
+    keeper: K,
+    lane: Option<TcpLane<HostRuntime>>,
+) -> Result<Left<MemConsole, K>> {
+    let line = line_of(alloc, command.words)?;
+    let (audit, repair, tally) = (kit(alloc)?, kit(alloc)?, kit(alloc)?);
+    let posts = posts(alloc, lane, command.now)?;
+    let world = World {
+        console: MemConsole::of(alloc, Vec::new(alloc), Vec::new(alloc)),
+        keeper,
+        posts,
+        audit,
+        repair,
+        tally,
+        gate: OpenGate::of(),
+    };
+    Ok(run_over(handles, alloc, &line, world))
+}
+
+fn tell(rt: &HostRuntime, what: &str, bytes: &[u8]) -> Result<()> {
+    let Ok(text) = text_of(rt.alloc(), bytes) else {
+        bail!("out of memory");
+    };
+    println!(rt; "{what} {text}")?;
+    Ok(())
 }
 
 // Runs a command without lanes, and tells how it ended under this name.
@@ -175,7 +159,7 @@ fn tell_command<K: Keeper + Send, R: Threads + Wait + Sync>(
         keeper,
         status,
         console,
-    } = left_of(run(handles, alloc, command, keeper, Vec::new(alloc))?);
+    } = run(handles, alloc, command, keeper, None)?;
     tell(
         rt,
         &format!(in alloc; "{name} {status}")?,
@@ -216,14 +200,12 @@ fn serve_lane<K: Keeper + Send, R: Threads + Wait + Sync>(
     command: Command<'_>,
     keeper: K,
     lane: TcpLane<HostRuntime>,
-) -> Option<Left<K>> {
-    let lanes = Vec::from_array(alloc, [lane]).ok()?;
-    let ran = run(handles, alloc, command, keeper, lanes).ok()?;
-    Some(left_of(ran))
+) -> Option<Left<MemConsole, K>> {
+    run(handles, alloc, command, keeper, Some(lane)).ok()
 }
 
-// What a port answers to a request.
-fn asked(rt: &HostRuntime, port: u16, request: &[u8]) -> Result<Vec<u8>> {
+/// What a port answers to a request.
+pub fn asked(rt: &HostRuntime, port: u16, request: &[u8]) -> Result<Vec<u8>> {
     let at = SocketAddr::V4(SocketAddrV4::new(Ipv4Addr::LOCALHOST, port));
     let stream: TcpStream = rt.connect(at)?;
     stream.set_read_timeout(Some(Duration::from_secs(PATIENCE)))?;

@@ -18,8 +18,16 @@ pub enum Stopping {
     File,
 }
 
-/// A connection to files, or what is left of them.
-pub fn connect<D: Disk + Drop>(
+// Empty files that answer every call. There is one type of files in this program, since what is compiled for it is large.
+fn new_files(alloc: Global) -> Files<Fused> {
+    Files {
+        log: Fuse::new(Memory::new(alloc), u64::MAX),
+        db: Fuse::new(Memory::new(alloc), u64::MAX),
+    }
+}
+
+// A connection to files, or what is left of them.
+fn connect<D: Disk + Drop>(
     alloc: Global,
     files: Files<D>,
 ) -> Result<Connection<FileStore<D>>, Option<Files<D>>>
@@ -90,10 +98,18 @@ fn put<S: Alter + Drop>(
     }
 }
 
-// The files, closed, with these rows.
-fn filled<D: Disk + Drop>(alloc: Global, files: Files<D>, changes: &[Change]) -> Option<Files<D>> {
-    let conn = put(alloc, connect(alloc, files).ok()?, changes)?;
+// New files, closed, with these rows.
+fn filled(alloc: Global, changes: &[Change]) -> Option<Files<Fused>> {
+    let conn = put(alloc, connect(alloc, new_files(alloc)).ok()?, changes)?;
     conn.close_files().ok()
+}
+
+// A disk with the bytes of another one, that answers so many calls.
+fn copied(alloc: Global, disk: &Fused, calls: u64) -> Option<Fused> {
+    let mut memory = Memory::new(alloc);
+    memory.write_at(0, disk.inner().bytes()).ok()?;
+    memory.sync().ok()?;
+    Some(Fuse::new(memory, calls))
 }
 
 /// Files of these rows, one of which answers so many calls.
@@ -103,18 +119,14 @@ pub fn fused(
     stopping: Stopping,
     calls: u64,
 ) -> Option<Files<Fused>> {
-    let empty = Files {
-        log: Memory::new(alloc),
-        db: Memory::new(alloc),
-    };
-    let Files { log, db } = filled(alloc, empty, changes)?;
+    let Files { log, db } = filled(alloc, changes)?;
     let (log_calls, db_calls) = match stopping {
         Stopping::Log => (calls, u64::MAX),
         Stopping::File => (u64::MAX, calls),
     };
     Some(Files {
-        log: Fuse::new(log, log_calls),
-        db: Fuse::new(db, db_calls),
+        log: copied(alloc, &log, log_calls)?,
+        db: copied(alloc, &db, db_calls)?,
     })
 }
 

@@ -1,6 +1,5 @@
 // Kind 9: the open plan of an audit.
 ghost use Rattle.std.specs.Prelude.{◌≡◌, refl};
-ghost use Rattle.std.proofs.Common.{rules};
 ghost use Rattle.sat_base.specs.declared.kinds.TheConstants as kinds;
 ghost use Rattle.record_rows.specs.declared.records.Rec.TheVariants as rec;
 ghost use Rattle.record_rows.specs.Laws.Kinds.{the_audit_plan};
@@ -63,8 +62,9 @@ impl Kind for AuditPlan {
     ghost parts = { record {
       row = λ id body. refl;
       ranked = λ id body. refl;
-      parted = λ id body fits. Prim.search rules;
-      joined = λ id body id_fits body_fits. Prim.search rules;
+      parted = λ id body fits. (tt, (fits.number, (fits.segment, (fits.version, (fits.stripe, (fits.serial, (fits.issued, fits.asked)))))));
+      joined = λ id body id_fits (number, (segment, (version, (stripe, (serial, (issued, asked)))))).
+          record { number = number; segment = segment; version = version; stripe = stripe; serial = serial; issued = issued; asked = asked };
       whole = λ rec is. let found = the_audit_plan rec is in let x = found.0 in
           (tt, (x.plan, (x.segment, (x.version, (x.stripe, (x.serial, (x.issued, x.asked)))))), found.1);
     } };

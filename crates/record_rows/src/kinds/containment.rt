@@ -1,6 +1,5 @@
 // Kind 12: a node that didn't answer an audit.
 ghost use Rattle.std.specs.Prelude.{◌≡◌, refl};
-ghost use Rattle.std.proofs.Common.{rules};
 ghost use Rattle.sat_base.specs.declared.kinds.TheConstants as kinds;
 ghost use Rattle.record_rows.specs.declared.records.Rec.TheVariants as rec;
 ghost use Rattle.record_rows.specs.Laws.Kinds.{the_containment};
@@ -59,8 +58,9 @@ impl Kind for Containment {
     ghost parts = { record {
       row = λ id body. refl;
       ranked = λ id body. refl;
-      parted = λ id body fits. Prim.search rules;
-      joined = λ id body id_fits body_fits. Prim.search rules;
+      parted = λ id body fits. (fits.node, (fits.segment, (fits.index, (fits.stripe, (fits.expect, fits.tries)))));
+      joined = λ id body node (segment, (index, (stripe, (expect, tries)))).
+          record { node = node; segment = segment; index = index; stripe = stripe; expect = expect; tries = tries };
       whole = λ rec is. let found = the_containment rec is in let x = found.0 in
           (x.node, (x.segment, (x.index, (x.stripe, (x.expect, x.tries)))), found.1);
     } };

@@ -1,6 +1,5 @@
 // Kind 4: a customer.
 ghost use Rattle.std.specs.Prelude.{◌≡◌, refl};
-ghost use Rattle.std.proofs.Common.{rules};
 ghost use Rattle.sat_base.specs.declared.kinds.TheConstants as kinds;
 ghost use Rattle.record_rows.specs.declared.records.Rec.TheVariants as rec;
 ghost use Rattle.record_rows.specs.Laws.Kinds.{the_customer};
@@ -41,8 +40,9 @@ impl Kind for Customer {
     ghost parts = { record {
       row = λ id body. refl;
       ranked = λ id body. refl;
-      parted = λ id body fits. Prim.search rules;
-      joined = λ id body id_fits body_fits. Prim.search rules;
+      parted = λ id body fits. (fits.id, fits.added);
+      joined = λ id body id_fits added.
+          record { id = id_fits; added = added };
       whole = λ rec is. let found = the_customer rec is in let x = found.0 in
           (x.id, x.added, found.1);
     } };

@@ -1,6 +1,5 @@
 // Kind 14: the open plan of an exit.
 ghost use Rattle.std.specs.Prelude.{◌≡◌, refl};
-ghost use Rattle.std.proofs.Common.{rules};
 ghost use Rattle.sat_base.specs.declared.kinds.TheConstants as kinds;
 ghost use Rattle.record_rows.specs.declared.records.Rec.TheVariants as rec;
 ghost use Rattle.record_rows.specs.Laws.Kinds.{the_exit_plan};
@@ -45,8 +44,9 @@ impl Kind for ExitPlan {
     ghost parts = { record {
       row = λ id body. refl;
       ranked = λ id body. refl;
-      parted = λ id body fits. Prim.search rules;
-      joined = λ id body id_fits body_fits. Prim.search rules;
+      parted = λ id body fits. (tt, (fits.leaving, fits.repair));
+      joined = λ id body id_fits (leaving, repair).
+          record { leaving = leaving; repair = repair };
       whole = λ rec is. let found = the_exit_plan rec is in let x = found.0 in
           (tt, (x.leaving, x.plan), found.1);
     } };

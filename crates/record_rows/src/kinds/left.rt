@@ -1,6 +1,5 @@
 // Kind 15: when a node left.
 ghost use Rattle.std.specs.Prelude.{◌≡◌, refl};
-ghost use Rattle.std.proofs.Common.{rules};
 ghost use Rattle.sat_base.specs.declared.kinds.TheConstants as kinds;
 ghost use Rattle.record_rows.specs.declared.records.Rec.TheVariants as rec;
 ghost use Rattle.record_rows.specs.Laws.Kinds.{the_left};
@@ -42,8 +41,9 @@ impl Kind for Left {
     ghost parts = { record {
       row = λ id body. refl;
       ranked = λ id body. refl;
-      parted = λ id body fits. Prim.search rules;
-      joined = λ id body id_fits body_fits. Prim.search rules;
+      parted = λ id body fits. (fits.node, fits.at);
+      joined = λ id body node at.
+          record { node = node; at = at };
       whole = λ rec is. let found = the_left rec is in let x = found.0 in
           (x.node, x.at, found.1);
     } };

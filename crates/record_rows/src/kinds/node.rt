@@ -1,6 +1,5 @@
 // Kind 3: a storage node.
 ghost use Rattle.std.specs.Prelude.{◌≡◌, refl};
-ghost use Rattle.std.proofs.Common.{rules};
 ghost use Rattle.sat_base.specs.declared.kinds.TheConstants as kinds;
 ghost use Rattle.record_rows.specs.declared.records.Rec.TheVariants as rec;
 ghost use Rattle.record_rows.specs.Laws.Kinds.{the_node};
@@ -66,8 +65,9 @@ impl Kind for Node {
     ghost parts = { record {
       row = λ id body. refl;
       ranked = λ id body. refl;
-      parted = λ id body fits. Prim.search rules;
-      joined = λ id body id_fits body_fits. Prim.search rules;
+      parted = λ id body fits. (fits.id, (fits.addr, (fits.port, (fits.free, (fits.joined, (fits.alpha, (fits.beta, (fits.passes, tt))))))));
+      joined = λ id body id_fits (addr, (port, (free, (joined, (alpha, (beta, (passes, _))))))).
+          record { id = id_fits; addr = addr; port = port; free = free; joined = joined; alpha = alpha; beta = beta; passes = passes };
       whole = λ rec is. let found = the_node rec is in let x = found.0 in
           (x.id, (x.addr, (x.port, (x.free, (x.joined, (x.alpha, (x.beta, (x.passes, x.status))))))), found.1);
     } };

@@ -1,6 +1,5 @@
 // Kind 10: the open plan of asking a node again.
 ghost use Rattle.std.specs.Prelude.{◌≡◌, refl};
-ghost use Rattle.std.proofs.Common.{rules};
 ghost use Rattle.sat_base.specs.declared.kinds.TheConstants as kinds;
 ghost use Rattle.record_rows.specs.declared.records.Rec.TheVariants as rec;
 ghost use Rattle.record_rows.specs.Laws.Kinds.{the_recheck_plan};
@@ -68,8 +67,9 @@ impl Kind for RecheckPlan {
     ghost parts = { record {
       row = λ id body. refl;
       ranked = λ id body. refl;
-      parted = λ id body fits. Prim.search rules;
-      joined = λ id body id_fits body_fits. Prim.search rules;
+      parted = λ id body fits. (tt, (fits.number, (fits.serial, (fits.issued, (fits.node, (fits.segment, (fits.index, (fits.stripe, fits.expect))))))));
+      joined = λ id body id_fits (number, (serial, (issued, (node, (segment, (index, (stripe, expect))))))).
+          record { number = number; serial = serial; issued = issued; node = node; segment = segment; index = index; stripe = stripe; expect = expect };
       whole = λ rec is. let found = the_recheck_plan rec is in let x = found.0 in
           (tt, (x.plan, (x.serial, (x.issued, (x.node, (x.segment, (x.index, (x.stripe, x.expect))))))), found.1);
     } };

@@ -1,6 +1,5 @@
 // Kind 5: a segment.
 ghost use Rattle.std.specs.Prelude.{◌≡◌, refl};
-ghost use Rattle.std.proofs.Common.{rules};
 ghost use Rattle.sat_base.specs.declared.kinds.TheConstants as kinds;
 ghost use Rattle.record_rows.specs.declared.records.Rec.TheVariants as rec;
 ghost use Rattle.record_rows.specs.Laws.Kinds.{the_segment};
@@ -58,8 +57,9 @@ impl Kind for Segment {
     ghost parts = { record {
       row = λ id body. refl;
       ranked = λ id body. refl;
-      parted = λ id body fits. Prim.search rules;
-      joined = λ id body id_fits body_fits. Prim.search rules;
+      parted = λ id body fits. (fits.id, (fits.customer, (fits.len, (fits.version, fits.pieces))));
+      joined = λ id body id_fits (customer, (len, (version, pieces))).
+          record { id = id_fits; customer = customer; len = len; version = version; pieces = pieces };
       whole = λ rec is. let found = the_segment rec is in let x = found.0 in
           (x.id, (x.customer, (x.len, (x.version, x.pieces))), found.1);
     } };

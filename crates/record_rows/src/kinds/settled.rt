@@ -1,6 +1,5 @@
 // Kind 6: a settled order.
 ghost use Rattle.std.specs.Prelude.{◌≡◌, refl};
-ghost use Rattle.std.proofs.Common.{rules};
 ghost use Rattle.sat_base.specs.declared.kinds.TheConstants as kinds;
 ghost use Rattle.record_rows.specs.declared.records.Rec.TheVariants as rec;
 ghost use Rattle.record_rows.specs.Laws.Kinds.{the_settled, place_rank};
@@ -59,8 +58,9 @@ impl Kind for SettledRow {
     ghost parts = { record {
       row = λ id body. refl;
       ranked = λ id body. place_rank id.0 id.1;
-      parted = λ id body fits. Prim.search rules;
-      joined = λ id body id_fits body_fits. Prim.search rules;
+      parted = λ id body fits. ((fits.serial, fits.node), (tt, (fits.amount, fits.at)));
+      joined = λ id body (serial, node) (_, (amount, at)).
+          record { serial = serial; node = node; amount = amount; at = at };
       whole = λ rec is. let found = the_settled rec is in let x = found.0 in
           ((x.serial, x.node), (x.action, (x.amount, x.at)), found.1);
     } };

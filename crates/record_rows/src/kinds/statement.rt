@@ -1,6 +1,5 @@
 // Kind 8: what a node's operator is paid for a month.
 ghost use Rattle.std.specs.Prelude.{◌≡◌, refl};
-ghost use Rattle.std.proofs.Common.{rules};
 ghost use Rattle.sat_base.specs.declared.kinds.TheConstants as kinds;
 ghost use Rattle.record_rows.specs.declared.records.Rec.TheVariants as rec;
 ghost use Rattle.record_rows.specs.Laws.Kinds.{the_statement};
@@ -69,8 +68,9 @@ impl Kind for Statement {
     ghost parts = { record {
       row = λ id body. refl;
       ranked = λ id body. refl;
-      parted = λ id body fits. Prim.search rules;
-      joined = λ id body id_fits body_fits. Prim.search rules;
+      parted = λ id body fits. ((fits.month, fits.node), (fits.age, (fits.percent, (fits.sums, (fits.parts, (fits.held, (fits.paid, (fits.returned, fits.pot))))))));
+      joined = λ id body (month, node) (age, (percent, (sums, (parts, (held, (paid, (returned, pot))))))).
+          record { month = month; node = node; age = age; percent = percent; sums = sums; parts = parts; held = held; paid = paid; returned = returned; pot = pot };
       whole = λ rec is. let found = the_statement rec is in let x = found.0 in
           ((x.month, x.node), (x.age, (x.percent, (x.sums, (x.parts, (x.held, (x.paid, (x.returned, x.pot))))))), found.1);
     } };

@@ -1,6 +1,5 @@
 // Kind 7: what a node keeps in an hour.
 ghost use Rattle.std.specs.Prelude.{◌≡◌, refl};
-ghost use Rattle.std.proofs.Common.{rules};
 ghost use Rattle.sat_base.specs.declared.kinds.TheConstants as kinds;
 ghost use Rattle.record_rows.specs.declared.records.Rec.TheVariants as rec;
 ghost use Rattle.record_rows.specs.Laws.Kinds.{the_tally};
@@ -43,8 +42,9 @@ impl Kind for Tally {
     ghost parts = { record {
       row = λ id body. refl;
       ranked = λ id body. refl;
-      parted = λ id body fits. Prim.search rules;
-      joined = λ id body id_fits body_fits. Prim.search rules;
+      parted = λ id body fits. ((fits.hour, fits.node), fits.bytes);
+      joined = λ id body (hour, node) bytes.
+          record { hour = hour; node = node; bytes = bytes };
       whole = λ rec is. let found = the_tally rec is in let x = found.0 in
           ((x.hour, x.node), x.bytes, found.1);
     } };

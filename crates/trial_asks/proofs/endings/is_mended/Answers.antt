@@ -5,8 +5,8 @@ use Rattle.trial_asks.proofs.endings.is_mended.Goals as goal
 
 pub conclude-requires : goal.conclude-requires
 conclude-requires g c =
-    let sources = c.as_slice-5.ensures.value ∙ c.in_ok-sources.ensures ∙ ap place_indexes c.as_slice-3.ensures in
-    let targets = c.as_slice-6.ensures.value ∙ c.in_ok-targets.ensures ∙ ap place_indexes c.as_slice-4.ensures in
+    let sources = c.as_slice-3.ensures.value ∙ c.in_ok-sources.ensures ∙ ap place_indexes c.as_slice.ensures in
+    let targets = c.as_slice-4.ensures.value ∙ c.in_ok-targets.ensures ∙ ap place_indexes c.as_slice-2.ensures in
     let AreSources : List ℕ → List ℕ → Type 0 = λ some all. All (λ index. has_index all index ≡ true) some in
     record {
       sources_rise = subst Rises sources (c.if-not-is_told.ensures.sources refl);

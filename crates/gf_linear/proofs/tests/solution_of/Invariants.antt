@@ -1,8 +1,0 @@
-use Rattle.std.proofs.Common.{◌≡◌}
-use Rattle.gf_linear.proofs.tests.solution_of.Given as goal
-
-abbrev pub invariant-loop-row : goal.invariant-loop-row
-invariant-loop-row l = (l.m.rows ≡ 2) × (l.m.cols ≡ 3)
-
-abbrev pub invariant-loop-col : goal.invariant-loop-col
-invariant-loop-col l = (l.m.rows ≡ 2) × (l.m.cols ≡ 3)

@@ -1,5 +1,0 @@
-use Rattle.node_registry.specs.Reputation.{IsRated}
-use Rattle.node_registry.proofs.reputation.tests.the_sixth_fail_disqualifies.Given as goal
-
-abbrev pub invariant-loop-alpha : goal.invariant-loop-alpha
-invariant-loop-alpha g l = IsRated l.node

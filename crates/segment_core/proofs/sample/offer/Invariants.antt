@@ -1,5 +1,0 @@
-use Rattle.segment_core.specs.Places.{IsOffer}
-use Rattle.segment_core.proofs.sample.offer.Given as goal
-
-abbrev pub invariant-loop-index : goal.invariant-loop-index
-invariant-loop-index l = IsOffer l.index l.places.items

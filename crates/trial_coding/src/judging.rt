@@ -1,0 +1,115 @@
+// Verdicts on answers of one byte.
+ghost use Rattle.std.specs.Prelude.{◌≡◌, false, length, All, IfOk};
+ghost use Rattle.audit_core.specs.Heard.{heard_indexes, is_wanting, place_indexes};
+
+use crate::indexes::are_rising;
+use crate::repairs::places;
+use audit_core::{AuditPlan, Heard, Judged, Verdict, judge};
+use bw_decode::Scratch;
+use sat_base::{Fetched, Items, Moment, NoMemory, Scheme, SegId, Serial};
+use std::alloc::Global;
+use std::process::Abort;
+use std::test::Fail;
+
+// What a node answers: a byte as its share, or nothing that is a share.
+#[derive(Clone, Copy)]
+enum Answer {
+    Byte(u8),
+    Missing,
+    Silent,
+}
+
+fn fetched(alloc: Global, answer: Answer) -> Result<Fetched, NoMemory>
+    ensures { IfOk result (λ what. is_wanting what ≡ false) }
+{
+    match answer {
+        Answer::Byte(byte) => Ok(Fetched::Share(Items::of(vec![in alloc; byte]?))),
+        Answer::Missing => Ok(Fetched::Missing),
+        Answer::Silent => Ok(Fetched::NoAnswer),
+    }
+}
+
+// What is heard of the pieces of these indexes.
+fn heard(alloc: Global, indexes: &[u8], answers: &[Answer]) -> Result<Vec<Heard>, NoMemory>
+    requires { length indexes.now ≡ length answers.now }
+    ensures indexes { IfOk result (λ heard. heard_indexes heard.items ≡ indexes.now) }
+    ensures answered { IfOk result (λ heard. All (λ one. is_wanting one.what ≡ false) heard.items) }
+{
+    let mut heard = Vec::new(alloc);
+    for (i, index) in indexes.iter().enumerate() {
+        let what = fetched(alloc, answers[i])?;
+        heard.push(Heard {
+            index: *index,
+            what,
+        })?;
+    }
+    Ok(heard)
+}
+
+// A plan that asks for the shares of these indexes.
+fn asking(alloc: Global, indexes: &[u8]) -> Result<AuditPlan, NoMemory>
+    ensures { IfOk result (λ plan. place_indexes plan.asked ≡ indexes.now) }
+{
+    Ok(AuditPlan {
+        plan: 9,
+        segment: SegId(8),
+        version: 1,
+        stripe: 4,
+        serial: Serial(7),
+        issued: Moment::of(5),
+        asked: places(alloc, indexes)?,
+    })
+}
+
+// Judges six answers of one byte under a scheme of 2 of 6.
+fn judged(rt: &impl Abort, alloc: Global, answers: &[Answer]) -> Result<Judged, Fail> {
+    let scheme = Scheme::check(2, 3, 4, 6, 1)?;
+    let indexes = [0, 1, 2, 3, 4, 5];
+    assert!(rt; answers.len() == 6 && are_rising(&indexes, scheme.n));
+    let mut scratch = Scratch::new(alloc, &scheme)?;
+    let plan = asking(alloc, &indexes)?;
+    let heard = Items::of(heard(alloc, &indexes, answers)?);
+    Ok(judge(alloc, &mut scratch, &scheme, plan, heard).map_err(|(_, err)| err)?)
+}
+
+// Whether the verdict on the answers blames these indexes, or is unclear where there are none.
+fn blames(
+    rt: &impl Abort,
+    alloc: Global,
+    answers: &[Answer],
+    indexes: Option<&[u8]>,
+) -> Result<bool, Fail> {
+    let judged = judged(rt, alloc, answers)?;
+    Ok(match &judged.verdict {
+        Verdict::Clear { blamed } => indexes == Some(blamed.as_slice()),
+        Verdict::Unclear => indexes.is_none(),
+    })
+}
+
+// The data 1 and 2 have the shares 1, 2, 7, 4, 13 and 14.
+#[test]
+fn judges_by_the_near_stripe(rt: HostRuntime) -> Result<(), Fail> {
+    let byte = Answer::Byte;
+    let (missing, silent) = (Answer::Missing, Answer::Silent);
+    let cases: [([Answer; 6], Option<&[u8]>); 5] = [
+        (
+            [byte(1), byte(2), byte(7), byte(9), byte(13), byte(0)],
+            Some(&[3, 5]),
+        ),
+        (
+            [byte(1), byte(2), byte(7), byte(9), missing, silent],
+            Some(&[3]),
+        ),
+        ([byte(1), byte(2), byte(7), byte(9), byte(0), silent], None),
+        ([byte(1), byte(2), byte(7), missing, silent, silent], None),
+        (
+            [silent, byte(2), byte(7), byte(4), byte(13), byte(14)],
+            Some(&[]),
+        ),
+    ];
+    for (answers, indexes) in cases {
+        let right = blames(&rt, rt.alloc(), &answers, indexes)?;
+        assert!(rt; right, "{indexes:?}");
+    }
+    Ok(())
+}

@@ -1,0 +1,70 @@
+// Healthy pieces, and pieces in place of lost ones.
+use crate::sample::{pending, place};
+use node_registry::{AddErr, Node, NodeTable, Status};
+use sat_base::{Moment, NoMemory, NodeId};
+use segment_core::{Segment, healthy, mend};
+use std::alloc::Global;
+use std::test::Fail;
+
+// Adds the next node.
+fn add(table: &mut NodeTable, status: Status) -> Result<(), AddErr> {
+    let id = table.len() as u32 + 1;
+    table.add(Node {
+        id: NodeId(id),
+        addr: 0xc000_0207,
+        port: 28967,
+        free: 1 << 40,
+        joined: Moment::of(5),
+        alpha: 1000,
+        beta: 0,
+        passes: 0,
+        status,
+    })
+}
+
+// Whether the pieces on the first and the third node are the healthy ones.
+fn are_healthy(alloc: Global, table: &NodeTable) -> Result<bool, NoMemory> {
+    let segment = pending(alloc, 5)?;
+    let pieces = healthy(alloc, &segment, table)?;
+    Ok(pieces.as_slice() == [place(0), place(2)].as_slice())
+}
+
+fn add_and_filter(alloc: Global, table: &mut NodeTable) -> Result<bool, Fail> {
+    for status in [
+        Status::Active,
+        Status::Disqualified,
+        Status::Exiting,
+        Status::Exited,
+    ] {
+        add(table, status)?;
+    }
+    Ok(are_healthy(alloc, table)?)
+}
+
+fn filters(alloc: Global) -> Result<bool, Fail> {
+    let mut table = NodeTable::new(alloc);
+    add_and_filter(alloc, &mut table)
+}
+
+#[test]
+fn pieces_on_nodes_that_count_are_healthy(rt: HostRuntime) -> Result<(), Fail> {
+    assert!(rt; filters(rt.alloc())?);
+    Ok(())
+}
+
+fn mended(alloc: Global) -> Result<Segment, NoMemory> {
+    let segment = pending(alloc, 4)?;
+    mend(alloc, &segment, &[place(1), place(3)], &[place(2)])
+}
+
+fn is_mended(segment: &Segment) -> bool {
+    let pieces = [place(1), place(2), place(3)];
+    segment.version == 1 && segment.len == 7424 && segment.pieces.as_slice() == pieces.as_slice()
+}
+
+#[test]
+fn mends(rt: HostRuntime) -> Result<(), Fail> {
+    let mended = mended(rt.alloc())?;
+    assert!(rt; is_mended(&mended));
+    Ok(())
+}
