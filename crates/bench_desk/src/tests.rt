@@ -1,9 +1,9 @@
-ghost use Rattle.std.specs.Prelude.{◌≤◌};
+ghost use Rattle.std.specs.Prelude.{◌≡◌, ◌≤◌};
 
 mod shapes;
 
 use crate::register::Register;
-use shapes::{Sheet, Worked, chain, pair, tree, try_enter};
+use shapes::{Sheet, Ticketed, Worked, branch, pair, try_enter};
 use std::alloc::Global;
 use std::sync::Wait;
 use std::test::*;
@@ -47,8 +47,8 @@ fn term_of<R: Threads + Wait + Sync>(
     };
     let worked = match shape {
         Shape::Pair => pair(rt, alloc, &desk, pass, calls),
-        Shape::Chain => chain(rt, alloc, &desk, pass, calls),
-        Shape::Tree => tree(rt, alloc, &desk, pass, calls),
+        Shape::Chain => branch(rt, alloc, &desk, pass, calls, false),
+        Shape::Tree => branch(rt, alloc, &desk, pass, calls, true),
     };
     let Worked { pass, sheet } = worked;
     Some((desk.close(pass), sheet))
@@ -68,11 +68,22 @@ fn replays(register: &Register) -> bool {
 // The places are 0 to the length less 1, each once.
 fn are_all_places(mut places: Vec<u64>, len: usize) -> bool {
     places.sort_unstable();
-    places.len() == len
-        && places
-            .iter()
-            .enumerate()
-            .all(|(at, place)| *place == at as u64)
+    let mut fine = places.len() == len;
+    for (at, place) in places.iter().enumerate() {
+        fine = fine && *place == at as u64;
+    }
+    fine
+}
+
+// Each ticket is one of those that so many workers draw from the term on.
+fn are_from_term(tickets: &[u64], term: u64, workers: u64) -> bool
+    requires { (workers ≤ 4) × (term ≤ 65536) }
+{
+    let mut fine = true;
+    for ticket in tickets {
+        fine = fine && term <= *ticket && *ticket < term + workers;
+    }
+    fine
 }
 
 // What is the same of every term, whatever the schedule: the history replays, the places told are its places, and each
@@ -92,30 +103,50 @@ fn is_sound(register: &Register, sheet: Sheet, workers: u64, calls: u64, term: u
         && replays(register)
         && entered as u64 == asked.min(term)
         && refused == asked - asked.min(term)
-        && tickets
-            .iter()
-            .all(|ticket| term <= *ticket && *ticket < term + workers)
+        && are_from_term(tickets.as_slice(), term, workers)
         && are_all_places(places, entered)
 }
 
-#[test]
-fn terms_that_do_not_fill(rt: HostRuntime) -> Result<(), Fail> {
-    let alloc = rt.alloc();
-    for shape in [Shape::Pair, Shape::Chain, Shape::Tree] {
-        let (register, sheet) = term_of(&rt, alloc, shape, 250, 1000).ok_or("no memory")?;
-        assert!(rt; is_sound(&register, sheet, shape.workers(), 250, 1000));
+// Whether a term of such a crowd, each of whose workers makes 250 calls, is sound.
+fn ends_sound<R: Threads + Wait + Sync>(rt: &R, alloc: Global, shape: Shape, term: u64) -> bool
+    requires { (1 ≤ term) × (term ≤ 65536) }
+{
+    match term_of(rt, alloc, shape, 250, term) {
+        Some((register, sheet)) => is_sound(&register, sheet, shape.workers(), 250, term),
+        None => false,
     }
-    Ok(())
 }
 
+// Terms that fill, and that don't.
 #[test]
-fn terms_that_fill(rt: HostRuntime) -> Result<(), Fail> {
-    let alloc = rt.alloc();
-    for shape in [Shape::Pair, Shape::Chain, Shape::Tree] {
-        let (register, sheet) = term_of(&rt, alloc, shape, 250, 300).ok_or("no memory")?;
-        assert!(rt; is_sound(&register, sheet, shape.workers(), 250, 300));
+fn terms_of_every_shape(rt: HostRuntime) {
+    for term in [300, 1000] {
+        for shape in [Shape::Pair, Shape::Chain, Shape::Tree] {
+            assert!(&rt; ends_sound(&rt, rt.alloc(), shape, term), "of {term}");
+        }
     }
-    Ok(())
+}
+
+// Five calls, between which the pass is split and joined. All but the first meet the full term, if it is of one call.
+fn enter_five<R: Wait>(rt: &R, desk: &Desk<Register>, pass: Ticketed) -> (Ticketed, bool)
+    requires desk { pass.desk ≡ desk.now }
+    requires spare { 2 ≤ pass.spare }
+    ensures desk { result.0.desk ≡ pass.desk }
+    ensures parts { result.0.parts ≡ pass.parts }
+{
+    let (pass, first) = try_enter(rt, desk, pass, 5);
+    let (pass, second) = try_enter(rt, desk, pass, 6);
+    let (kept, given) = desk.split(pass);
+    let (kept, third) = try_enter(rt, desk, kept, 7);
+    let (given, fourth) = try_enter(rt, desk, given, 8);
+    let pass = desk.join(given, kept);
+    let (pass, fifth) = try_enter(rt, desk, pass, 9);
+    let fits = first == Ok(0)
+        && second == Err(1)
+        && third == Err(1)
+        && fourth == Err(1)
+        && fifth == Err(1);
+    (pass, fits)
 }
 
 // One thread alone, at a term of one call. Both halves of a pass with a mark have the mark, and so has the pass that
@@ -126,21 +157,10 @@ fn the_full_term_is_met_again(rt: HostRuntime) -> Result<(), Fail> {
     let Ok((desk, pass)) = Desk::new(rt.alloc(), register, 1) else {
         return Err(Fail::new("no memory"));
     };
-    let (pass, first) = try_enter(&rt, &desk, pass, 5);
-    let (pass, second) = try_enter(&rt, &desk, pass, 6);
-    let (kept, given) = desk.split(pass);
-    let (kept, third) = try_enter(&rt, &desk, kept, 7);
-    let (given, fourth) = try_enter(&rt, &desk, given, 8);
-    let pass = desk.join(given, kept);
-    let (pass, fifth) = try_enter(&rt, &desk, pass, 9);
+    let (pass, fits) = enter_five(&rt, &desk, pass);
     let number = pass.number();
     let register = desk.close(pass);
-    assert_eq!(rt; first, Ok(0));
-    for refused in [second, third, fourth, fifth] {
-        assert_eq!(rt; refused, Err(1));
-    }
-    assert_eq!(rt; number, 1 << 31);
-    assert_eq!(rt; register.sum, START + 5);
-    assert!(rt; replays(&register));
+    let fits = fits && number == 1 << 31 && register.sum == START + 5 && replays(&register);
+    assert!(rt; fits);
     Ok(())
 }

@@ -1,4 +1,7 @@
 -- Fronts of bytes, and items of lists.
+use Rattle.std.specs.Prelude.{Result, Ok, Err, ◌≢◌}
+use Rattle.record_rows.specs.declared.coded.Unread.{Unread}
+use Rattle.record_rows.specs.declared.coded.Unread.TheVariants as no
 use Rattle.std.proofs.Common.{◌≡◌, ◌+◌, ◌-◌, ◌++◌, ◌<◌, ◌∷◌, [], ℕ, suc, zero, List, length, take, drop, get_or, arith, refl, ap, sym, ◌∙◌, append_assoc, append-nil, length-drop, length-take, ◌≤◌}
 use Rattle.std.specs.List.{flat_map}
 use Rattle.std.proofs.lemmas.Grind.{flat_map-append}
@@ -38,6 +41,14 @@ pub behind_next : {A : Type 0} (f : A → List ℕ) (xs : List A) (i at size : �
 behind_next f xs i at size b rest h e long =
     sym (drop-drop size at b) ∙ rw (sym (to_end at b) ∙ e) (drop_at (f h.head) (flat_map f (drop (suc i) xs) ++ rest) size (sym long))
 
+-- one more item read, and what stands behind it
+pub one_more : {A : Type 0} (f : A → List ℕ) (xs : List A) (i at size : ℕ) (b rest : List ℕ) (front : List A) (x : A) (h : HeadOf xs i)
+    → front ≡ take i xs → take (length b - at) (drop at b) ≡ f h.head ++ (flat_map f (drop (suc i) xs) ++ rest)
+    → ◌≡◌ {A = A × ℕ} (x, size) (h.head, length (f h.head))
+    → (front ++ x ∷ [] ≡ take (suc i) xs) × (drop (at + size) b ≡ flat_map f (drop (suc i) xs) ++ rest)
+one_more f xs i at size b rest front x h was stands is =
+    (rw (was, ap (λ p. p.0) is) (sym h.front), behind_next f xs i at size b rest h stands (ap (λ p. p.1) is))
+
 pub grown : {A : Type 0} (f : A → List ℕ) (xs : List A) (x : A) → flat_map f (xs ++ x ∷ []) ≡ flat_map f xs ++ f x
 grown f xs x = rw (flat_map-append, flat_map-cons) (ap (λ l. flat_map f xs ++ l) (append-nil (f x)))
 
@@ -50,3 +61,23 @@ pub untag : (n t s : ℕ) (b y : List ℕ) → take n b ≡ t ∷ [] → n ≤ l
 untag n t s b y e le is =
     let one : n ≡ 1 = omega (arith, length-take n b, ap length e, le) in
     to_end n b ∙ rw (one, is) refl
+
+-- what is read where a spelling stands at the front, memory being there
+pub took : {A : Type 0} (r : Result A Unread) (a x : A) → r ≡ Ok a → (r ≢ Err no.NoMemory → r ≡ Ok x) → a ≡ x
+took r a x was only = let e = only (λ none. absurd (cc)) in cc
+
+-- nothing else is refused there
+pub refused : {A B : Type 0} (r : Result A Unread) (s : Result B Unread) (x : A) (w : Unread) → r ≡ Err w → s ≡ Err w
+    → (r ≢ Err no.NoMemory → r ≡ Ok x) → s ≢ Err no.NoMemory → (P : Type 0) → P
+refused r s x w was told only mem P = let e = only (λ none. mem (told ∙ cc)) in absurd (cc)
+
+-- the tag of bytes that begin with one
+pub tag_of : (n t s : ℕ) (b y : List ℕ) → take n b ≡ t ∷ [] → n ≤ length b → b ≡ s ∷ y → t ≡ s
+tag_of n t s b y e le is =
+    let one : n ≡ 1 = omega (arith, length-take n b, ap length e, le) in
+    let both : t ∷ [] ≡ s ∷ [] = sym e ∙ rw (one, is) refl in
+    ap (λ l. get_or l 0 0) both
+
+-- how many bytes a tag and what stands behind it have
+pub behind_tag : (n t : ℕ) (b : List ℕ) (size long : ℕ) → take n b ≡ t ∷ [] → n ≤ length b → size ≡ long → n + size ≡ suc long
+behind_tag n t b size long e le is = omega (arith, length-take n b, ap length e, le, is)

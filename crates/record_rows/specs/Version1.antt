@@ -4,7 +4,6 @@ use Rattle.sat_base.specs.declared.kinds.TheConstants as kinds
 use Rattle.sat_base.specs.declared.rows.Row.{Row}
 use Rattle.sat_base.specs.declared.settings.Settings.{Settings}
 use Rattle.sat_base.specs.declared.rates.Rates.{Rates}
-use Rattle.sat_base.specs.declared.rates.Tariff.{Tariff}
 use Rattle.sat_base.specs.Limits.{AreRatesWithin}
 use Rattle.record_rows.specs.declared.upgrading.Upgraded.{Upgraded}
 use Rattle.record_rows.specs.Settings.{old_settings_bytes}

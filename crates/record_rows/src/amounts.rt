@@ -1,5 +1,5 @@
 // What a node did in a month, and what it earned.
-ghost use Rattle.std.specs.Prelude.{◌≡◌, ◌≤◌, ◌++◌, length};
+ghost use Rattle.std.specs.Prelude.{◌≡◌, ◌≤◌, ◌++◌, length, refl};
 ghost use Rattle.record_rows.specs.Bodies.{sums_bytes, parts_bytes};
 ghost use Rattle.record_rows.specs.Fits.{SumsFit, PartsFit};
 ghost use Rattle.record_rows.specs.Laws.Records.{sums_apart, no_sums, parts_apart, no_parts};
@@ -19,6 +19,8 @@ impl Made for Sums {
 
     ghost fields = { λ sums. (sums.get, (sums.audit, (sums.repair, sums.byte_hours))) };
 
+    ghost bytes_of = { sums_bytes };
+
     fn of(given: FourAmounts) -> Option<Self> {
         let (get, (audit, (repair, byte_hours))) = given;
         Some(Sums {
@@ -28,6 +30,8 @@ impl Made for Sums {
             byte_hours,
         })
     }
+
+    ghost spelled = { λ x. refl };
 }
 
 impl Spelled for Sums {
@@ -55,6 +59,8 @@ impl Made for Parts {
 
     ghost fields = { λ parts. (parts.get, (parts.audit, (parts.repair, (parts.storage, parts.gross)))) };
 
+    ghost bytes_of = { parts_bytes };
+
     fn of(given: FiveAmounts) -> Option<Self> {
         let (get, (audit, (repair, (storage, gross)))) = given;
         Some(Parts {
@@ -65,6 +71,8 @@ impl Made for Parts {
             gross,
         })
     }
+
+    ghost spelled = { λ x. refl };
 }
 
 impl Spelled for Parts {

@@ -12,6 +12,9 @@ pub(crate) trait Made: Drop {
     /// What it is made of, in the order in which that is spelled.
     ghost fields: { Self → Self.Fields };
 
+    /// Its bytes.
+    ghost bytes_of: { Self → List ℕ };
+
     /// The bounds beside those of the fields.
     ghost allows: { Self → Type 0 } = { λ _. Unit {0} };
 
@@ -21,6 +24,9 @@ pub(crate) trait Made: Drop {
         ensures allows { IfSome result allows }
         ensures fields { IfSome result (λ x. fields x ≡ given) }
         ensures only { (x : Self) → allows x → fields x ≡ given → result ≡ Some x };
+
+    /// The bytes are those of the fields, one behind the other.
+    ghost spelled: { (x : Self) → Self.Fields.spelling (fields x) ≡ bytes_of x };
 }
 
 /// Reads the fields from the front, and makes the whole.
@@ -28,10 +34,10 @@ pub(crate) fn take_made<T: Made>(alloc: Global, bytes: &[u8]) -> Result<(T, usiz
     ensures fits { IfOk result (λ r. T.Fields.fits (T.fields r.0)) }
     ensures allows { IfOk result (λ r. T.allows r.0) }
     ensures size { IfOk result (λ r. r.1 ≤ length bytes.now) }
-    ensures found { IfOk result (λ r. take r.1 bytes.now ≡ T.Fields.spelling (T.fields r.0)) }
+    ensures found { IfOk result (λ r. take r.1 bytes.now ≡ T.bytes_of r.0) }
     ensures only { (x : T) (rest : List ℕ) → T.Fields.fits (T.fields x) → T.allows x
-        → bytes.now ≡ T.Fields.spelling (T.fields x) ++ rest → result ≢ Err Unread.NoMemory
-        → result ≡ Ok (x, length (T.Fields.spelling (T.fields x))) }
+        → bytes.now ≡ T.bytes_of x ++ rest → result ≢ Err Unread.NoMemory
+        → result ≡ Ok (x, length (T.bytes_of x)) }
 {
     let (fields, size) = T::Fields::take(alloc, bytes)?;
     match T::of(fields) {

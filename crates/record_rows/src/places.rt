@@ -1,5 +1,5 @@
 // Where pieces lie.
-ghost use Rattle.std.specs.Prelude.{◌≡◌, ◌≤◌, ◌<◌, ◌++◌, ◌∷◌, [], List, All, length, true};
+ghost use Rattle.std.specs.Prelude.{◌≡◌, ◌≤◌, ◌<◌, ◌++◌, ◌∷◌, [], List, All, length, true, refl};
 ghost use Rattle.std.proofs.Common.{rules};
 ghost use Rattle.sat_base.specs.declared.limits.TheConstants as limits;
 ghost use Rattle.sat_base.specs.declared.records.At.{At};
@@ -21,10 +21,14 @@ impl Made for At {
 
     ghost fields = { λ at. (at.index, at.node) };
 
+    ghost bytes_of = { at_bytes };
+
     fn of(given: (u8, NodeId)) -> Option<Self> {
         let (index, node) = given;
         Some(At { index, node })
     }
+
+    ghost spelled = { λ x. refl };
 }
 
 impl Spelled for At {
@@ -74,6 +78,8 @@ impl Made for Places {
 
     ghost fields = { λ places. places };
 
+    ghost bytes_of = { listed at_bytes };
+
     ghost allows = { λ places. IsByIndex places × All (λ at. at.index < limits.PLACES) places };
 
     fn of(given: Items<At>) -> Option<Self> {
@@ -83,6 +89,8 @@ impl Made for Places {
             None
         }
     }
+
+    ghost spelled = { λ x. refl };
 }
 
 impl Spelled for Places {

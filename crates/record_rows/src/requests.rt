@@ -1,6 +1,6 @@
 // Kept requests, part by part.
-ghost use Rattle.std.specs.Prelude.{◌≡◌, ◌≤◌, ◌++◌, ◌∷◌, [], All, length, IsSome};
-ghost use Rattle.std.proofs.Common.{rules};
+ghost use Rattle.std.specs.Prelude.{◌≡◌, ◌≤◌, ◌++◌, ◌∷◌, [], All, length, IsSome, refl};
+ghost use Rattle.std.proofs.Common.{rules, sym};
 ghost use Rattle.sat_base.specs.declared.limits.TheConstants as limits;
 ghost use Rattle.sat_base.specs.declared.requests.Asked.TheVariants as asks;
 ghost use Rattle.sat_base.specs.declared.requests.Done.TheVariants as dones;
@@ -8,6 +8,8 @@ ghost use Rattle.sat_base.specs.Limits.{IsAskedWithin, IsDoneWithin};
 ghost use Rattle.order_limits.specs.Order.{action_of};
 ghost use Rattle.record_rows.specs.Requests.{asked_bytes, place_bytes, offer_bytes, done_bytes};
 ghost use Rattle.record_rows.specs.Fits.{PlaceFits, IsOfferWithin, IsAsked, IsDone};
+ghost use Rattle.record_rows.specs.Numbers.{be8, be32, be64};
+ghost use Rattle.record_rows.specs.Laws.Apart.{four_first};
 ghost use Rattle.record_rows.specs.Laws.Requests.{place_apart, some_place, offer_apart, some_offer, asked_apart, done_apart};
 
 use crate::coded::{Coded, Spelled, Unread};
@@ -25,6 +27,8 @@ impl Made for Place {
 
     ghost fields = { λ place. (place.index, (place.node, (place.addr, place.port))) };
 
+    ghost bytes_of = { place_bytes };
+
     fn of(given: PlaceFields) -> Option<Self> {
         let (index, (node, (addr, port))) = given;
         Some(Place {
@@ -34,6 +38,8 @@ impl Made for Place {
             port,
         })
     }
+
+    ghost spelled = { λ x. refl };
 }
 
 impl Spelled for Place {
@@ -56,20 +62,23 @@ impl Coded for Place {
     ghost some = { some_place };
 }
 
-type OfferFields = (
-    CustomerId,
-    (SegId, (Serial, (u8, (u64, (Moment, Items<Place>))))),
-);
+// What is ordered, and where.
+type Ordered = (CustomerId, (SegId, (Serial, u8)));
+
+type OfferFields = (Ordered, (u64, (Moment, Items<Place>)));
 
 impl Made for Offer {
     type Fields = OfferFields;
 
-    ghost fields = { λ o. (o.customer, (o.segment, (o.serial, (o.action, (o.piece_len, (o.issued, o.places)))))) };
+    ghost fields = { λ o. ((o.customer, (o.segment, (o.serial, o.action))), (o.piece_len, (o.issued, o.places))) };
+
+    ghost bytes_of = { offer_bytes };
 
     ghost allows = { λ o. IsSome (action_of o.action) };
 
     fn of(given: OfferFields) -> Option<Self> {
-        let (customer, (segment, (serial, (action, (piece_len, (issued, places)))))) = given;
+        let (ordered, (piece_len, (issued, places))) = given;
+        let (customer, (segment, (serial, action))) = ordered;
         if Action::of(action).is_none() {
             return None;
         }
@@ -83,6 +92,8 @@ impl Made for Offer {
             places,
         })
     }
+
+    ghost spelled = { λ o. sym (four_first (be32 o.customer.0) (be64 o.segment.0) (be64 o.serial.0) (be8 o.action) _) };
 }
 
 impl Spelled for Offer {

@@ -1,7 +1,10 @@
 // What a store is set up with, part by part.
-ghost use Rattle.std.specs.Prelude.{◌≡◌, ◌≤◌, ◌++◌, length};
+ghost use Rattle.std.specs.Prelude.{◌≡◌, ◌≤◌, ◌++◌, length, refl};
+ghost use Rattle.std.proofs.Common.{sym};
 ghost use Rattle.sat_base.specs.Limits.{AreCapsWithin, AreRatesWithin};
 ghost use Rattle.record_rows.specs.Settings.{scheme_bytes, caps_bytes, rates_bytes};
+ghost use Rattle.record_rows.specs.Numbers.{be32};
+ghost use Rattle.record_rows.specs.Laws.Apart.{four_first};
 ghost use Rattle.record_rows.specs.Laws.Records.{scheme_apart, some_scheme, caps_apart, some_caps, rates_apart, some_rates};
 
 use crate::coded::{Coded, Spelled, Unread};
@@ -16,10 +19,14 @@ impl Made for Scheme {
 
     ghost fields = { λ scheme. (scheme.k, (scheme.m, (scheme.o, (scheme.n, scheme.share)))) };
 
+    ghost bytes_of = { λ scheme. scheme_bytes scheme.k scheme.m scheme.o scheme.n scheme.share };
+
     fn of(given: SchemeNumbers) -> Option<Self> {
         let (k, (m, (o, (n, share)))) = given;
         Scheme::check(k as u64, m as u64, o as u64, n as u64, share as u64).ok()
     }
+
+    ghost spelled = { λ x. refl };
 }
 
 impl Spelled for Scheme {
@@ -42,18 +49,21 @@ impl Coded for Scheme {
     ghost some = { some_scheme };
 }
 
-type SixCaps = (u32, (u32, (u32, (u32, (u32, u32)))));
+type SixCaps = ((u32, (u32, (u32, u32))), (u32, u32));
 
 impl Made for Caps {
     type Fields = SixCaps;
 
     ghost fields = { λ caps.
-        (caps.nodes, (caps.customers, (caps.segments, (caps.settled, (caps.tallies, caps.statements))))) };
+        ((caps.nodes, (caps.customers, (caps.segments, caps.settled))), (caps.tallies, caps.statements)) };
+
+    ghost bytes_of = { caps_bytes };
 
     ghost allows = { AreCapsWithin };
 
     fn of(given: SixCaps) -> Option<Self> {
-        let (nodes, (customers, (segments, (settled, (tallies, statements))))) = given;
+        let (rows, (tallies, statements)) = given;
+        let (nodes, (customers, (segments, settled))) = rows;
         let caps = Caps {
             nodes,
             customers,
@@ -64,6 +74,8 @@ impl Made for Caps {
         };
         if caps.are_within() { Some(caps) } else { None }
     }
+
+    ghost spelled = { λ caps. sym (four_first (be32 caps.nodes) (be32 caps.customers) (be32 caps.segments) (be32 caps.settled) _) };
 }
 
 impl Spelled for Caps {
@@ -94,6 +106,8 @@ impl Made for Rates {
 
     ghost fields = { λ rates. (rates.get, (rates.audit, (rates.repair, rates.storage))) };
 
+    ghost bytes_of = { rates_bytes };
+
     ghost allows = { AreRatesWithin };
 
     fn of(given: FourRates) -> Option<Self> {
@@ -110,6 +124,8 @@ impl Made for Rates {
             None
         }
     }
+
+    ghost spelled = { λ x. refl };
 }
 
 impl Spelled for Rates {

@@ -1,11 +1,11 @@
 // Settings of version 1.
-ghost use Rattle.std.specs.Prelude.{◌≡◌, IfOk, IfSome, Some};
+ghost use Rattle.std.specs.Prelude.{◌≡◌, IfOk, IfSome, Some, refl};
 ghost use Rattle.sat_base.specs.declared.kinds.TheConstants as kinds;
 ghost use Rattle.sat_base.specs.declared.settings.Settings.{Settings};
 ghost use Rattle.sat_base.specs.declared.rates.Rates.{Rates};
 ghost use Rattle.sat_base.specs.Limits.{AreRatesWithin, IsTariffWithin};
 ghost use Rattle.record_rows.specs.Fits.{SettingsFit, IsVetting};
-ghost use Rattle.record_rows.specs.Version1.{IsUpgraded, old_row, upgraded};
+ghost use Rattle.record_rows.specs.Version1.{IsUpgraded, old_row, old_settings_body, upgraded};
 
 use crate::coded::Unread;
 use crate::kind::read_whole;
@@ -31,6 +31,8 @@ impl Made for Upgraded {
     ghost fields = { λ u. let s = u.settings in
         (s.secret, (s.scheme, (s.vet, (s.fresh, (u.tariff.rates, (s.caps, s.first_month)))))) };
 
+    ghost bytes_of = { λ u. old_settings_body u.settings u.tariff.rates };
+
     ghost allows = { λ u. IsVetting u.settings.vet u.settings.fresh
         × (u.tariff.from ≡ u.settings.first_month) };
 
@@ -53,6 +55,8 @@ impl Made for Upgraded {
         };
         Some(Upgraded { settings, tariff })
     }
+
+    ghost spelled = { λ u. refl };
 }
 
 /// The settings and the tariff that a row of version 1 holds, or `None` where the row isn't one: of kind 1, with an

@@ -5,18 +5,14 @@ ghost use Rattle.record_rows.specs.Spelling.{row_of, removal};
 ghost use Rattle.record_rows.specs.Fits.{IsShort};
 
 use crate::coded::Spelled;
-use crate::kind::write_row;
 use crate::records::Rec;
-use audit_core::{AuditPlan, RecheckPlan};
-use node_registry::{Left, Node};
-use repair_core::{ExitPlan, RepairPlan};
-use sat_base::{
-    Change, Containment, Customer, Items, Kept, Key, Marks, NoMemory, Row, Settings, Tariff, kinds,
+use crate::writers::{
+    write_audit_plan, write_containment, write_customer, write_exit_plan, write_kept, write_left,
+    write_marks, write_node, write_recheck_plan, write_repair_plan, write_segment, write_settings,
+    write_settled, write_statement, write_tally, write_tariff,
 };
-use segment_core::Segment;
-use settlement::SettledRow;
+use sat_base::{Change, Items, Key, NoMemory, Row, kinds};
 use std::alloc::Global;
-use tally_payout::{Statement, Tally};
 
 /// The row of a record.
 pub fn write(alloc: Global, rec: &Rec) -> Result<Row, NoMemory>
@@ -24,22 +20,22 @@ pub fn write(alloc: Global, rec: &Rec) -> Result<Row, NoMemory>
     ensures { IfOk result (λ row. row ≡ row_of rec.now) }
 {
     match rec {
-        Rec::Settings(settings) => write_row(alloc, settings),
-        Rec::Marks(marks) => write_row(alloc, marks),
-        Rec::Node(node) => write_row(alloc, node),
-        Rec::Customer(customer) => write_row(alloc, customer),
-        Rec::Segment(segment) => write_row(alloc, segment),
-        Rec::SettledRow(row) => write_row(alloc, row),
-        Rec::Tally(tally) => write_row(alloc, tally),
-        Rec::Statement(statement) => write_row(alloc, statement),
-        Rec::AuditPlan(plan) => write_row(alloc, plan),
-        Rec::RecheckPlan(plan) => write_row(alloc, plan),
-        Rec::RepairPlan(plan) => write_row(alloc, plan),
-        Rec::Containment(containment) => write_row(alloc, containment),
-        Rec::Kept(kept) => write_row(alloc, kept),
-        Rec::ExitPlan(plan) => write_row(alloc, plan),
-        Rec::Left(left) => write_row(alloc, left),
-        Rec::Tariff(tariff) => write_row(alloc, tariff),
+        Rec::Settings(settings) => write_settings(alloc, settings),
+        Rec::Marks(marks) => write_marks(alloc, marks),
+        Rec::Node(node) => write_node(alloc, node),
+        Rec::Customer(customer) => write_customer(alloc, customer),
+        Rec::Segment(segment) => write_segment(alloc, segment),
+        Rec::SettledRow(row) => write_settled(alloc, row),
+        Rec::Tally(tally) => write_tally(alloc, tally),
+        Rec::Statement(statement) => write_statement(alloc, statement),
+        Rec::AuditPlan(plan) => write_audit_plan(alloc, plan),
+        Rec::RecheckPlan(plan) => write_recheck_plan(alloc, plan),
+        Rec::RepairPlan(plan) => write_repair_plan(alloc, plan),
+        Rec::Containment(containment) => write_containment(alloc, containment),
+        Rec::Kept(kept) => write_kept(alloc, kept),
+        Rec::ExitPlan(plan) => write_exit_plan(alloc, plan),
+        Rec::Left(left) => write_left(alloc, left),
+        Rec::Tariff(tariff) => write_tariff(alloc, tariff),
     }
 }
 

@@ -2,13 +2,13 @@
 ghost use Rattle.std.specs.Prelude.{◌≡◌, IfOk};
 ghost use Rattle.node_asks.specs.Asks.{pieces_of};
 
-use crate::places::{SEGMENT, Wanted, is_asked, keys, nodes, pieces_at, place, places, scheme};
-use audit_core::{AuditPlan, RecheckPlan};
+use crate::places::{SEGMENT, Wanted, are_asked, keys, nodes, pieces_at, place, places, scheme};
+use audit_core::{AuditPlan, Heard, RecheckPlan};
 use node_asks::{hear, hear_one};
 use order_limits::Action;
-use sat_base::{Ask, Bytes, Fetched, Items, Moment, NoMemory, NodeId, Place, Serial};
+use sat_base::{Fetched, Items, MemNodes, Moment, NoMemory, Place, Serial};
 use std::alloc::Global;
-use std::process::Abort;
+use std::test::Fail;
 
 // An audit of stripe 1 at these places.
 fn plan(alloc: Global, places: &[Place]) -> Result<AuditPlan, NoMemory>
@@ -26,42 +26,41 @@ fn plan(alloc: Global, places: &[Place]) -> Result<AuditPlan, NoMemory>
     })
 }
 
-fn share(alloc: Global, byte: u8) -> Result<Fetched, NoMemory> {
-    let bytes: Bytes = Items::of(vec![in alloc; byte]?);
-    Ok(Fetched::Share(bytes))
+// What is to be heard of a place.
+#[derive(Clone, Copy)]
+enum Told<'a> {
+    Share(&'a [u8]),
+    Missing,
+    NoAnswer,
 }
 
-// What is wanted of each place, in order.
-fn wanted(alloc: Global) -> Result<Vec<Fetched>, NoMemory> {
-    Ok(vec![in alloc;
-        share(alloc, 10)?,
-        share(alloc, 11)?,
-        Fetched::NoAnswer,
-        share(alloc, 13)?,
-        Fetched::Share(Items::of(Vec::new(alloc))),
-        Fetched::Missing,
-    ]?)
-}
-
-// Each place was asked for its share of stripe 1.
-fn are_asked(rt: &impl Abort, asks: &[Ask]) {
-    assert!(rt; asks.len() == 6);
-    for (index, ask) in (0..6).zip(asks) {
-        let wanted = Wanted {
-            action: Action::GetAudit,
-            index,
-            offset: 1,
-            len: 1,
-            limit: 1,
-        };
-        is_asked(rt, ask, wanted);
+fn is_told(what: &Fetched, told: Told<'_>) -> bool {
+    match (what, told) {
+        (Fetched::Share(bytes), Told::Share(wanted)) => bytes.as_slice() == wanted,
+        (Fetched::Missing, Told::Missing) => true,
+        (Fetched::NoAnswer, Told::NoAnswer) => true,
+        _ => false,
     }
 }
 
+// Whether each place is told of, in order.
+fn are_told(heard: &[Heard], told: &[(u8, Told<'_>)]) -> bool {
+    heard.len() == told.len()
+        && heard.iter().zip(told).all(|(one, (index, told))| one.index == *index
+            && is_told(&one.what, *told))
+}
+
+// What is heard of these places.
+fn heard(alloc: Global, nodes: &mut MemNodes, indexes: &[u8]) -> Result<Items<Heard>, NoMemory> {
+    let places = places(alloc, indexes)?;
+    let plan = plan(alloc, places.as_slice())?;
+    let places = places.as_slice();
+    hear(alloc, &keys(), &scheme(1), nodes, &plan, places)
+}
+
 #[test]
-fn hears_of_each_place(rt: HostRuntime) {
+fn hears_of_each_place(rt: HostRuntime) -> Result<(), Fail> {
     let alloc = rt.alloc();
-    let places = places(alloc, &[0, 1, 2, 3, 4, 5]).expect(&rt, "places");
     // the third call fails, the piece of index 5 isn't held, and that of index 4 ends before the stripe
     let held: &[(u8, &[u8])] = &[
         (0, &[1, 10, 3]),
@@ -70,63 +69,56 @@ fn hears_of_each_place(rt: HostRuntime) {
         (3, &[1, 13, 3]),
         (4, &[1]),
     ];
-    let mut nodes = nodes(alloc, held, &[3]).expect(&rt, "nodes");
-    let plan = plan(alloc, places.as_slice()).expect(&rt, "a plan");
-    let scheme = scheme(&rt, 1);
-    let heard = hear(
-        alloc,
-        &keys(),
-        &scheme,
-        &mut nodes,
-        &plan,
-        places.as_slice(),
-    );
-    let heard = heard.expect(&rt, "answers");
-    let wanted = wanted(alloc).expect(&rt, "answers");
-    assert!(&rt; heard.as_slice().len() == wanted.len());
-    for (i, (one, what)) in heard.as_slice().iter().zip(&wanted).enumerate() {
-        assert!(&rt; usize::from(one.index) == i && one.what == *what);
-    }
-    are_asked(&rt, nodes.asks());
+    let told: &[(u8, Told<'_>)] = &[
+        (0, Told::Share(&[10])),
+        (1, Told::Share(&[11])),
+        (2, Told::NoAnswer),
+        (3, Told::Share(&[13])),
+        (4, Told::Share(&[])),
+        (5, Told::Missing),
+    ];
+    let wanted = Wanted {
+        action: Action::GetAudit,
+        offset: 1,
+        len: 1,
+        limit: 1,
+    };
+    let indexes: &[u8] = &[0, 1, 2, 3, 4, 5];
+    let mut nodes = nodes(alloc, held, &[3])?;
+    let heard = heard(alloc, &mut nodes, indexes)?;
+    let good = are_told(heard.as_slice(), told) && are_asked(nodes.asks(), indexes, wanted);
+    assert!(rt; good);
+    Ok(())
 }
 
-fn two(alloc: Global, first: u8, second: u8) -> Result<Fetched, NoMemory> {
-    let bytes: Bytes = Items::of(vec![in alloc; first, second]?);
-    Ok(Fetched::Share(bytes))
-}
-
-#[test]
-fn hears_of_the_place_of_a_recheck(rt: HostRuntime) {
-    let alloc = rt.alloc();
-    let scheme = scheme(&rt, 2);
-    let held: &[(u8, &[u8])] = &[(3, &[1, 2, 3, 4, 5, 6])];
-    let mut nodes = nodes(alloc, held, &[2]).expect(&rt, "nodes");
+// What is heard of the place of a recheck of stripe 2.
+fn heard_again(alloc: Global, nodes: &mut MemNodes) -> Fetched {
+    let place = place(3);
     let plan = RecheckPlan {
         plan: 9,
         serial: Serial(7),
         issued: Moment::of(5),
-        node: NodeId(4),
+        node: place.node,
         segment: SEGMENT,
-        index: 3,
+        index: place.index,
         stripe: 2,
         expect: [0; 32],
     };
-    let place = place(3);
-    assert!(&rt; place.node == plan.node && place.index == plan.index);
-    let wanted = two(alloc, 5, 6).expect(&rt, "a share");
-    let heard = hear_one(alloc, &keys(), &scheme, &mut nodes, &plan, &place);
-    assert!(&rt; heard == wanted);
-    let heard = hear_one(alloc, &keys(), &scheme, &mut nodes, &plan, &place);
-    assert!(&rt; heard == Fetched::NoAnswer);
-    assert!(&rt; nodes.asks().len() == 2);
-    for ask in nodes.asks() {
-        let wanted = Wanted {
-            action: Action::GetAudit,
-            index: 3,
-            offset: 4,
-            len: 2,
-            limit: 2,
-        };
-        is_asked(&rt, ask, wanted);
-    }
+    hear_one(alloc, &keys(), &scheme(2), nodes, &plan, &place)
+}
+
+#[test]
+fn hears_of_the_place_of_a_recheck(rt: HostRuntime) -> Result<(), Fail> {
+    let alloc = rt.alloc();
+    let mut nodes = nodes(alloc, &[(3, &[1, 2, 3, 4, 5, 6])], &[2])?;
+    let first = is_told(&heard_again(alloc, &mut nodes), Told::Share(&[5, 6]));
+    let second = is_told(&heard_again(alloc, &mut nodes), Told::NoAnswer);
+    let wanted = Wanted {
+        action: Action::GetAudit,
+        offset: 4,
+        len: 2,
+        limit: 2,
+    };
+    assert!(rt; first && second && are_asked(nodes.asks(), &[3, 3], wanted));
+    Ok(())
 }

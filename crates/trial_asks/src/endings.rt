@@ -1,14 +1,14 @@
 // How repairs end.
-ghost use Rattle.std.specs.Prelude.{◌≡◌, true, false, All, IsTrue};
+ghost use Rattle.std.specs.Prelude.{◌≡◌, true, false, All, IsTrue, IfOk};
 ghost use Rattle.bw_decode.specs.Near.{Rises};
 ghost use Rattle.repair_core.specs.Indexes.{has_index};
+ghost use Rattle.node_asks.specs.Ending.{Told};
 
 use crate::places::{SEGMENT, are_rising, indexes_of, pieces_at, places, scheme};
 use node_asks::conclude;
 use repair_core::{RepairOutcome, RepairPlan};
 use sat_base::{Indexes, Items, Moment, NoMemory, Serial};
 use std::alloc::Global;
-use std::process::Abort;
 use std::test::Fail;
 
 fn stands_in(indexes: &[u8], index: u8) -> bool
@@ -105,12 +105,20 @@ fn plan(alloc: Global) -> Result<RepairPlan, NoMemory> {
     })
 }
 
-// Whether it is mended. None where it can't have ended as it is told.
-fn is_mended(rt: &impl Abort, alloc: Global, tale: Tale) -> Result<Option<bool>, NoMemory> {
-    let plan = plan(alloc)?;
+// Whether a repair by the plan can have ended as it is told.
+fn can_end(alloc: Global, plan: &RepairPlan, tale: &Tale) -> Result<bool, NoMemory>
+    ensures { IfOk result (λ fine. IsTrue fine
+        → Told plan.now tale.now.blamed tale.now.answered tale.now.placed tale.now.missing) }
+{
     let sources = indexes_of(alloc, plan.sources.as_slice())?;
     let targets = indexes_of(alloc, plan.targets.as_slice())?;
-    if !is_told(sources.as_slice(), targets.as_slice(), &tale) {
+    Ok(is_told(sources.as_slice(), targets.as_slice(), tale))
+}
+
+// Whether it is mended. None where it can't have ended as it is told.
+fn is_mended(alloc: Global, tale: Tale) -> Result<Option<bool>, NoMemory> {
+    let plan = plan(alloc)?;
+    if !can_end(alloc, &plan, &tale)? {
         return Ok(None);
     }
     let Tale {
@@ -119,44 +127,45 @@ fn is_mended(rt: &impl Abort, alloc: Global, tale: Tale) -> Result<Option<bool>,
         placed,
         missing,
     } = tale;
-    let scheme = scheme(rt, 1);
-    let outcome = conclude(alloc, &scheme, plan, &blamed, &answered, placed, missing)?;
+    let outcome = conclude(alloc, &scheme(1), plan, &blamed, &answered, placed, missing)?;
     Ok(Some(matches!(outcome, RepairOutcome::Mended(_))))
 }
 
-// The same, where these sources answered, were altered and hold no piece.
-fn ends_mended(
-    rt: &impl Abort,
-    alloc: Global,
-    answered: &[u8],
-    blamed: &[u8],
-    missing: &[u8],
-) -> Result<Option<bool>, NoMemory> {
+// The sources that answered, were altered and hold no piece, and whether such a repair is mended, if it can have ended so.
+type Case<'a> = (&'a [u8], &'a [u8], &'a [u8], Option<bool>);
+
+const CASES: [Case<'static>; 6] = [
+    (&[0, 1, 2, 3], &[3], &[], Some(true)),
+    (&[0, 2], &[], &[1, 3], Some(true)),
+    (&[0, 2], &[2], &[1, 3], Some(false)),
+    (&[2], &[], &[], Some(false)),
+    // one that is blamed need not have answered in every window
+    (&[0, 1], &[3], &[2], Some(true)),
+    // a source can't answer and be missing
+    (&[0, 1], &[], &[1], None),
+];
+
+// Whether a repair ends as the case says.
+fn ends_so(alloc: Global, case: Case<'_>) -> Result<bool, NoMemory> {
+    let (answered, blamed, missing, mended) = case;
     let tale = Tale {
         blamed: listed(alloc, blamed)?,
         answered: listed(alloc, answered)?,
         placed: listed(alloc, &[4])?,
         missing: listed(alloc, missing)?,
     };
-    is_mended(rt, alloc, tale)
+    Ok(is_mended(alloc, tale)? == mended)
 }
 
 #[test]
 fn two_sound_sources_mend(rt: HostRuntime) -> Result<(), Fail> {
-    let alloc = rt.alloc();
-    assert_eq!(rt;
-        ends_mended(&rt, alloc, &[0, 1, 2, 3], &[3], &[])?,
-        Some(true)
-    );
-    assert_eq!(rt; ends_mended(&rt, alloc, &[0, 2], &[], &[1, 3])?, Some(true));
-    assert_eq!(rt;
-        ends_mended(&rt, alloc, &[0, 2], &[2], &[1, 3])?,
-        Some(false)
-    );
-    assert_eq!(rt; ends_mended(&rt, alloc, &[2], &[], &[])?, Some(false));
-    // one that is blamed need not have answered in every window
-    assert_eq!(rt; ends_mended(&rt, alloc, &[0, 1], &[3], &[2])?, Some(true));
-    // a source can't answer and be missing
-    assert_eq!(rt; ends_mended(&rt, alloc, &[0, 1], &[], &[1])?, None);
+    for case in CASES {
+        let good = ends_so(rt.alloc(), case)?;
+        assert!(rt;
+            good,
+            "answered {:?}, altered {:?}, missing {:?}",
+            case.0, case.1, case.2
+        );
+    }
     Ok(())
 }

@@ -10,3 +10,5 @@ mod endings;
 mod places;
 #[cfg(test)]
 mod repairs;
+#[cfg(test)]
+mod spreads;

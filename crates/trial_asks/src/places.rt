@@ -1,23 +1,28 @@
 // Places, and what nodes hold at them.
-ghost use Rattle.std.specs.Prelude.{◌≡◌, ◌<◌, map, All, IfOk, IsTrue};
+ghost use Rattle.std.specs.Prelude.{◌≡◌, ◌<◌, ◌≤◌, map, All, IfOk, IsTrue};
 ghost use Rattle.bw_decode.specs.Near.{Rises};
+ghost use Rattle.repair_core.specs.Indexes.{place_indexes};
 ghost use Rattle.node_asks.specs.Asks.{at_of, pieces_of};
 
-use order_limits::{Action, Keys, read_order};
+use order_limits::{Action, Keys, Limit, read_order};
 use sat_base::{
-    Ask, At, CustomerId, Held, Items, MemNodes, NoMemory, NodeId, Place, Scheme, SegId,
+    Ask, At, CustomerId, Held, Items, MemNodes, NoMemory, NodeId, Place, Scheme, SegId, Serial,
 };
 use std::alloc::Global;
-use std::process::Abort;
 
 /// The segment that is spoken of.
 pub const SEGMENT: SegId = SegId(8);
 
 /// The scheme of these cases: two pieces rebuild a segment.
-pub fn scheme(rt: &impl Abort, share: u64) -> Scheme {
-    match Scheme::check(2, 3, 4, 6, share) {
-        Ok(scheme) => scheme,
-        Err(_) => panic!(rt; "no scheme"),
+pub fn scheme(share: u16) -> Scheme
+    requires { (1 ≤ share) × (share ≤ 1024) }
+{
+    Scheme {
+        k: 2,
+        m: 3,
+        o: 4,
+        n: 6,
+        share,
     }
 }
 
@@ -84,6 +89,15 @@ pub fn are_rising(indexes: &[u8], n: u8) -> bool
     true
 }
 
+/// Whether the indexes of pieces rise and are below `n`.
+pub fn rise(alloc: Global, pieces: &Items<At>, n: u8) -> Result<bool, NoMemory>
+    ensures rising { IfOk result (λ fine. IsTrue fine → Rises (place_indexes pieces.now)) }
+    ensures below { IfOk result (λ fine. IsTrue fine → All (λ index. index < n) (place_indexes pieces.now)) }
+{
+    let indexes = indexes_of(alloc, pieces.as_slice())?;
+    Ok(are_rising(indexes.as_slice(), n))
+}
+
 /// Nodes that hold the pieces of these indexes at their places, of which the calls of these numbers fail.
 pub fn nodes(alloc: Global, held: &[(u8, &[u8])], failing: &[u64]) -> Result<MemNodes, NoMemory> {
     let mut pieces = Vec::new(alloc);
@@ -102,33 +116,47 @@ pub fn nodes(alloc: Global, held: &[(u8, &[u8])], failing: &[u64]) -> Result<Mem
 #[derive(Clone, Copy)]
 pub struct Wanted {
     pub action: Action,
-    pub index: u8,
     pub offset: u64,
     pub len: u64,
     pub limit: u64,
 }
 
-/// An ask is of the wanted range, at the place of its index, under an order for the whole limit.
-pub fn is_asked(rt: &impl Abort, ask: &Ask, wanted: Wanted) {
-    let at = place(wanted.index);
-    assert_eq!(rt; (ask.node, ask.addr, ask.port), (at.node, at.addr, at.port));
-    assert_eq!(rt; (ask.segment, ask.index), (SEGMENT, wanted.index));
-    assert_eq!(rt; (ask.offset, ask.len), (wanted.offset, wanted.len));
-    let Ok(order) = read_order(&keys(), &ask.order) else {
-        panic!(rt; "no order");
-    };
-    assert_eq!(rt; order.amount, wanted.limit);
-    assert_eq!(rt;
-        (order.limit.action, order.limit.limit),
-        (wanted.action, wanted.limit)
-    );
-    assert_eq!(rt;
-        (order.limit.node, order.limit.index),
-        (at.node, wanted.index)
-    );
-    assert_eq!(rt;
-        (order.limit.segment, order.limit.customer),
-        (SEGMENT, CustomerId(0))
-    );
-    assert_eq!(rt; (order.limit.serial.0, order.limit.issued), (7, 5));
+// Whether an ask is of the wanted range, at the place of the index.
+fn is_of(ask: &Ask, index: u8, wanted: Wanted) -> bool {
+    let at = place(index);
+    ask.node == at.node
+        && ask.addr == at.addr
+        && ask.port == at.port
+        && ask.segment == SEGMENT
+        && ask.index == index
+        && ask.offset == wanted.offset
+        && ask.len == wanted.len
+}
+
+// Whether a limit is as wanted, for the place of the index.
+fn is_limit(limit: &Limit, index: u8, wanted: Wanted) -> bool {
+    limit.action == wanted.action
+        && limit.limit == wanted.limit
+        && limit.node == place(index).node
+        && limit.index == index
+        && limit.segment == SEGMENT
+        && limit.customer == CustomerId(0)
+        && limit.serial == Serial(7)
+        && limit.issued == 5
+}
+
+// Whether an ask has an order for the whole of the wanted limit.
+fn is_ordered(ask: &Ask, index: u8, wanted: Wanted) -> bool {
+    match read_order(&keys(), &ask.order) {
+        Ok(order) => order.amount == wanted.limit && is_limit(&order.limit, index, wanted),
+        Err(_) => false,
+    }
+}
+
+/// Whether there is one ask for each of the indexes, as wanted.
+pub fn are_asked(asks: &[Ask], indexes: &[u8], wanted: Wanted) -> bool {
+    asks.len() == indexes.len()
+        && asks.iter().zip(indexes).all(|(ask, index)| {
+            is_of(ask, *index, wanted) && is_ordered(ask, *index, wanted)
+        })
 }

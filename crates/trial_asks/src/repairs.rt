@@ -1,24 +1,19 @@
-// Pieces that repairs ask for, window by window, and fresh ones that they put.
-ghost use Rattle.std.specs.Prelude.{◌≡◌, ◌≤◌, ◌^◌, length, IfOk};
-ghost use Rattle.std.specs.List.{AllZip};
+// Pieces that repairs ask for, window by window.
+ghost use Rattle.std.specs.Prelude.{◌≡◌, IfOk};
 ghost use Rattle.node_asks.specs.Asks.{pieces_of};
-ghost use Rattle.node_asks.specs.Spreading.{IsFresh};
 
-use crate::places::{
-    SEGMENT, Wanted, are_rising, indexes_of, is_asked, keys, nodes, pieces_at, places, scheme,
-};
+use crate::places::{SEGMENT, Wanted, are_asked, keys, nodes, pieces_at, places, rise, scheme};
 use bw_decode::Scratch;
-use node_asks::{Heeded, remake, spread};
+use node_asks::{Heeded, remake};
 use order_limits::Action;
-use repair_core::RepairPlan;
+use repair_core::{Remade, RepairPlan};
 use rs_stripe::encode_piece;
-use sat_base::{Bytes, Items, MemNodes, Moment, NoMemory, Place, Scheme, Serial, Share};
+use sat_base::{Bytes, MemNodes, Moment, NoMemory, Place, Scheme, Serial};
 use std::alloc::Global;
-use std::process::Abort;
 use std::test::Fail;
 
-// A repair of a segment of so many bytes, from these places to those.
-fn plan(
+/// A repair of a segment of so many bytes, from these places to those.
+pub fn plan(
     alloc: Global,
     len: u64,
     sources: &[Place],
@@ -42,39 +37,42 @@ fn plan(
     })
 }
 
-// What comes of a segment of so many bytes with these sources, whose one target has index 4.
+// What comes of a plan whose sources lie at these places. None where its pieces don't rise.
+fn heed(
+    alloc: Global,
+    scheme: &Scheme,
+    nodes: &mut MemNodes,
+    plan: &RepairPlan,
+    places: &[Place],
+) -> Result<Option<Heeded>, NoMemory>
+    requires { pieces_of places.now ≡ plan.now.sources }
+{
+    let sources_rise = rise(alloc, &plan.sources, scheme.n)?;
+    let targets_rise = rise(alloc, &plan.targets, scheme.n)?;
+    if plan.len > 1 << 40 || !sources_rise || !targets_rise {
+        return Ok(None);
+    }
+    let mut scratch = Scratch::new(alloc, scheme)?;
+    let heeded = remake(alloc, &keys(), &mut scratch, scheme, nodes, plan, places)?;
+    Ok(Some(heeded))
+}
+
+// What comes of a segment of so many bytes with these sources, whose one target has index 4. None where they don't rise.
 fn remade(
-    rt: &impl Abort,
     alloc: Global,
     scheme: &Scheme,
     nodes: &mut MemNodes,
     len: u64,
     sources: &[u8],
-) -> Result<Heeded, NoMemory> {
+) -> Result<Option<Heeded>, NoMemory> {
     let sources = places(alloc, sources)?;
     let targets = places(alloc, &[4])?;
     let plan = plan(alloc, len, sources.as_slice(), targets.as_slice())?;
-    let from = indexes_of(alloc, plan.sources.as_slice())?;
-    let to = indexes_of(alloc, plan.targets.as_slice())?;
-    let sources_rise = are_rising(from.as_slice(), scheme.n);
-    let targets_rise = are_rising(to.as_slice(), scheme.n);
-    if len > 1 << 40 || !sources_rise || !targets_rise {
-        panic!(rt; "no such plan");
-    }
-    let mut scratch = Scratch::new(alloc, scheme)?;
-    remake(
-        alloc,
-        &keys(),
-        &mut scratch,
-        scheme,
-        nodes,
-        &plan,
-        sources.as_slice(),
-    )
+    heed(alloc, scheme, nodes, &plan, sources.as_slice())
 }
 
 // What is to come of three bytes whose two stripes have shares of one byte.
-#[derive(Drop)]
+#[derive(Clone, Copy)]
 struct Case<'a> {
     held: &'a [(u8, &'a [u8])],
     failing: &'a [u64],
@@ -83,36 +81,42 @@ struct Case<'a> {
     missing: &'a [u8],
 }
 
-fn tried(rt: &impl Abort, alloc: Global, case: Case<'_>) -> Result<(), Fail> {
-    let scheme = scheme(rt, 1);
-    let mut nodes = nodes(alloc, case.held, case.failing)?;
-    let heeded = remade(rt, alloc, &scheme, &mut nodes, 3, &[0, 1, 2, 3])?;
-    assert_eq!(rt; heeded.answered.as_slice(), case.answered);
-    assert_eq!(rt; heeded.missing.as_slice(), case.missing);
+// Whether one piece was made fresh, that of index 4, and these sources are blamed.
+fn is_fresh(made: &Remade, blamed: &[u8]) -> bool {
     let fresh: &[u8] = &[0x0d, 0x14];
-    match (&heeded.made, case.blamed) {
-        (Some(made), Some(blamed)) => {
-            assert_eq!(rt; made.blamed.as_slice(), blamed);
-            assert_eq!(rt; made.fresh.as_slice().len(), 1);
-            for piece in made.fresh.as_slice() {
-                assert_eq!(rt; piece.index, 4);
-                assert_eq!(rt; piece.bytes.as_slice(), fresh);
-            }
+    match made.fresh.as_slice() {
+        [piece] => {
+            piece.index == 4 && piece.bytes.as_slice() == fresh && made.blamed.as_slice() == blamed
         }
-        (None, None) => {}
-        _ => panic!(rt; "another end"),
+        _ => false,
     }
-    for (index, ask) in (0..4).zip(nodes.asks()) {
-        let wanted = Wanted {
-            action: Action::GetRepair,
-            index,
-            offset: 0,
-            len: 2,
-            limit: 2,
-        };
-        is_asked(rt, ask, wanted);
-    }
-    Ok(())
+}
+
+fn is_heeded(heeded: &Heeded, case: Case<'_>) -> bool {
+    let made = match (&heeded.made, case.blamed) {
+        (Some(made), Some(blamed)) => is_fresh(made, blamed),
+        (None, None) => true,
+        _ => false,
+    };
+    made && heeded.answered.as_slice() == case.answered && heeded.missing.as_slice() == case.missing
+}
+
+// Whether the case comes out as it is to, each source being asked once.
+fn comes_out(alloc: Global, case: Case<'_>) -> Result<bool, NoMemory> {
+    let mut nodes = nodes(alloc, case.held, case.failing)?;
+    let heeded = remade(alloc, &scheme(1), &mut nodes, 3, &[0, 1, 2, 3])?;
+    let wanted = Wanted {
+        action: Action::GetRepair,
+        offset: 0,
+        len: 2,
+        limit: 2,
+    };
+    Ok(match heeded {
+        Some(heeded) => {
+            is_heeded(&heeded, case) && are_asked(nodes.asks(), &[0, 1, 2, 3], wanted)
+        }
+        None => false,
+    })
 }
 
 const FIRST: (u8, &[u8]) = (0, &[1, 4]);
@@ -124,51 +128,45 @@ const THIRD: (u8, &[u8]) = (2, &[7, 12]);
 const ALTERED: (u8, &[u8]) = (3, &[4, 9]);
 
 #[test]
-fn blames_an_altered_source(rt: HostRuntime) -> Result<(), Fail> {
-    let case = Case {
+fn tells_what_came_of_each_source(rt: HostRuntime) -> Result<(), Fail> {
+    let altered = Case {
         held: &[FIRST, SECOND, THIRD, ALTERED],
         failing: &[],
         blamed: Some(&[3]),
         answered: &[0, 1, 2, 3],
         missing: &[],
     };
-    tried(&rt, rt.alloc(), case)
-}
-
-#[test]
-fn tells_of_a_missing_source(rt: HostRuntime) -> Result<(), Fail> {
-    let case = Case {
+    let missing = Case {
         held: &[FIRST, SECOND, THIRD],
         failing: &[],
         blamed: Some(&[]),
         answered: &[0, 1, 2],
         missing: &[3],
     };
-    tried(&rt, rt.alloc(), case)
-}
-
-#[test]
-fn tells_nothing_of_a_silent_source(rt: HostRuntime) -> Result<(), Fail> {
-    let case = Case {
+    let silent = Case {
         held: &[FIRST, SECOND, THIRD, ALTERED],
         failing: &[4],
         blamed: Some(&[]),
         answered: &[0, 1, 2],
         missing: &[],
     };
-    tried(&rt, rt.alloc(), case)
-}
-
-#[test]
-fn makes_nothing_of_too_few(rt: HostRuntime) -> Result<(), Fail> {
-    let case = Case {
+    // nothing is made of too few
+    let too_few = Case {
         held: &[FIRST],
         failing: &[],
         blamed: None,
         answered: &[0],
         missing: &[1, 2, 3],
     };
-    tried(&rt, rt.alloc(), case)
+    for case in [altered, missing, silent, too_few] {
+        let good = comes_out(rt.alloc(), case)?;
+        assert!(rt;
+            good,
+            "answered {:?}, missing {:?}",
+            case.answered, case.missing
+        );
+    }
+    Ok(())
 }
 
 // A segment of so many bytes.
@@ -177,31 +175,14 @@ fn segment(alloc: Global, len: u64) -> Result<Vec<u8>, NoMemory> {
 }
 
 // The pieces of the indexes 0 to 4 of a segment.
-fn five_pieces(
-    rt: &impl Abort,
-    alloc: Global,
-    scheme: &Scheme,
-    segment: &[u8],
-) -> Result<Vec<Bytes>, NoMemory> {
+fn five_pieces(alloc: Global, scheme: &Scheme, segment: &[u8]) -> Result<Vec<Bytes>, NoMemory> {
     let mut pieces = Vec::new(alloc);
-    for index in 0..5 {
-        assert!(rt; index < scheme.n && segment.len() <= 1 << 40);
-        pieces.push(encode_piece(alloc, scheme, segment, index)?)?;
+    for index in 0..scheme.n.min(5) {
+        if segment.len() <= 1 << 40 {
+            pieces.push(encode_piece(alloc, scheme, segment, index)?)?;
+        }
     }
     Ok(pieces)
-}
-
-// What is heeded where the second ask and the seventh fail, and how many were made.
-fn heeded_twice(
-    rt: &impl Abort,
-    alloc: Global,
-    scheme: &Scheme,
-    len: u64,
-    held: &[(u8, &[u8])],
-) -> Result<(Heeded, usize), NoMemory> {
-    let mut nodes = nodes(alloc, held, &[2, 7])?;
-    let heeded = remade(rt, alloc, scheme, &mut nodes, len, &[0, 1, 2, 3])?;
-    Ok((heeded, nodes.asks().len()))
 }
 
 // Whether all that was made fresh is this.
@@ -216,16 +197,11 @@ fn is_made(heeded: &Heeded, fresh: &[u8]) -> bool {
     }
 }
 
-// A source of two windows is silent in the second one.
-#[test]
-fn asks_in_the_next_window_who_answered(rt: HostRuntime) {
-    let alloc = rt.alloc();
-    let scheme = scheme(&rt, 1024);
-    let len = 17 * 2 * 1024;
-    let segment = segment(alloc, len).expect(&rt, "a segment");
-    let pieces = five_pieces(&rt, alloc, &scheme, segment.as_slice()).expect(&rt, "pieces");
-    let [first, second, third, fourth, fifth] = pieces.as_slice() else {
-        panic!(&rt; "five pieces");
+// Whether the sources 0 and 2 alone answer throughout, where the second ask and the seventh fail, and the fifth piece is
+// made of the first four.
+fn drops_the_silent(alloc: Global, len: u64, pieces: &[Bytes]) -> Result<bool, NoMemory> {
+    let [first, second, third, fourth, fifth] = pieces else {
+        return Ok(false);
     };
     let held: &[(u8, &[u8])] = &[
         (0, first.as_slice()),
@@ -233,64 +209,25 @@ fn asks_in_the_next_window_who_answered(rt: HostRuntime) {
         (2, third.as_slice()),
         (3, fourth.as_slice()),
     ];
-    let heeded = heeded_twice(&rt, alloc, &scheme, len, held).expect(&rt, "answers");
-    assert!(&rt; heeded.0.answered.as_slice() == [0, 2].as_slice());
-    assert!(&rt; heeded.1 == 7);
-    assert!(&rt; is_made(&heeded.0, fifth.as_slice()));
+    let mut nodes = nodes(alloc, held, &[2, 7])?;
+    let Some(heeded) = remade(alloc, &scheme(1024), &mut nodes, len, &[0, 1, 2, 3])? else {
+        return Ok(false);
+    };
+    Ok(
+        heeded.answered.as_slice() == [0, 2].as_slice()
+            && nodes.asks().len() == 7
+            && is_made(&heeded, fifth.as_slice()),
+    )
 }
 
-// A piece of so many bytes for each place, in order.
-fn fresh_at(alloc: Global, places: &[Place], len: u64, byte: u8) -> Result<Vec<Share>, NoMemory>
-    requires { len ≤ 1024 }
-    ensures { IfOk result (λ fresh. AllZip (IsFresh len) places.now fresh.items) }
-{
-    let mut fresh = Vec::new(alloc);
-    for place in places {
-        let bytes = Items::of(vec![in alloc; byte; len as usize]?);
-        fresh.push(Share {
-            index: place.index,
-            bytes,
-        })?;
-    }
-    Ok(fresh)
-}
-
+// A source of two windows is silent in the second one.
 #[test]
-fn tells_the_targets_that_are_kept(rt: HostRuntime) -> Result<(), Fail> {
+fn asks_in_the_next_window_who_answered(rt: HostRuntime) -> Result<(), Fail> {
     let alloc = rt.alloc();
-    let scheme = scheme(&rt, 1);
-    let targets = places(alloc, &[4, 5])?;
-    let plan = plan(alloc, 3, &[], targets.as_slice())?;
-    let to = indexes_of(alloc, plan.targets.as_slice())?;
-    let len = scheme.piece_len(3);
-    if !are_rising(to.as_slice(), scheme.n) || len != 2 {
-        panic!(rt; "no such plan");
-    }
-    let fresh = fresh_at(alloc, targets.as_slice(), len, 9)?;
-    let mut nodes = nodes(alloc, &[], &[1])?;
-    let kept = spread(
-        alloc,
-        &keys(),
-        &scheme,
-        &mut nodes,
-        &plan,
-        targets.as_slice(),
-        fresh.as_slice(),
-    )?;
-    assert_eq!(rt; kept.as_slice(), [5].as_slice());
-    assert_eq!(rt; nodes.held().len(), 1);
-    for held in nodes.held() {
-        assert_eq!(rt; (held.index, held.bytes.as_slice().len()), (5, 2));
-    }
-    for (index, ask) in (4..6).zip(nodes.asks()) {
-        let wanted = Wanted {
-            action: Action::PutRepair,
-            index,
-            offset: 0,
-            len: 2,
-            limit: 2,
-        };
-        is_asked(&rt, ask, wanted);
-    }
+    let len = 17 * 2 * 1024;
+    let segment = segment(alloc, len)?;
+    let pieces = five_pieces(alloc, &scheme(1024), segment.as_slice())?;
+    let good = drops_the_silent(alloc, len, pieces.as_slice())?;
+    assert!(rt; good);
     Ok(())
 }

@@ -1,51 +1,85 @@
 // A keeper of rows in memory.
 use sat_base::{Bytes, Change, Committed, Items, Keeper, KeeperMem, Loaded, NoMemory, Row};
 use std::alloc::Global;
-use std::test::Fail;
 
-fn row(alloc: Global, kind: u8, id: u8, body: u8) -> Result<Row, NoMemory> {
-    Ok(Row {
-        kind,
-        id: Bytes::of(vec![in alloc; id]?),
-        body: Bytes::of(vec![in alloc; body]?),
-    })
+// A keeper whose third and fifth call fail.
+fn keeper(alloc: Global) -> Result<KeeperMem, NoMemory> {
+    let failing = Vec::from_slice(alloc, &[3, 5])?;
+    Ok(KeeperMem::of(Vec::new(alloc), failing))
 }
 
-fn put(alloc: Global, kind: u8, id: u8, body: u8) -> Result<Change, NoMemory> {
-    Ok(Change::Put(row(alloc, kind, id, body)?))
+fn byte(alloc: Global, byte: u8) -> Result<Bytes, NoMemory> {
+    Ok(Bytes::of(Vec::from_slice(alloc, &[byte])?))
 }
 
-fn remove(alloc: Global, kind: u8, id: u8) -> Result<Change, NoMemory> {
-    let id = Bytes::of(vec![in alloc; id]?);
-    Ok(Change::Remove { kind, id })
+fn row(alloc: Global, [kind, id, body]: [u8; 3]) -> Result<Row, NoMemory> {
+    let id = byte(alloc, id)?;
+    let body = byte(alloc, body)?;
+    Ok(Row { kind, id, body })
+}
+
+fn rows(alloc: Global, numbers: &[[u8; 3]]) -> Result<Vec<Row>, NoMemory> {
+    let mut rows = Vec::new(alloc);
+    for one in numbers {
+        rows.push(row(alloc, *one)?)?;
+    }
+    Ok(rows)
+}
+
+fn puts(alloc: Global) -> Result<Vec<Change>, NoMemory> {
+    let mut changes = Vec::new(alloc);
+    for one in [[2, 1, 7], [1, 9, 8], [2, 0, 9], [2, 1, 6]] {
+        changes.push(Change::Put(row(alloc, one)?))?;
+    }
+    Ok(changes)
+}
+
+fn removals(alloc: Global) -> Result<Vec<Change>, NoMemory> {
+    let mut changes = Vec::new(alloc);
+    for (kind, id) in [(2, 0), (1, 8)] {
+        let id = byte(alloc, id)?;
+        changes.push(Change::Remove { kind, id })?;
+    }
+    Ok(changes)
+}
+
+fn commits_puts(alloc: Global, keeper: &mut KeeperMem) -> Result<bool, NoMemory> {
+    let changes = puts(alloc)?;
+    Ok(keeper.commit(alloc, &changes) == Committed::Done)
+}
+
+fn loads_rows(alloc: Global, keeper: &mut KeeperMem) -> Result<bool, NoMemory> {
+    let rows = rows(alloc, &[[1, 9, 8], [2, 0, 9], [2, 1, 6]])?;
+    Ok(keeper.load(alloc) == Loaded::Rows(Items::of(rows)))
+}
+
+// Whether a commit fails once, and leaves three rows, and then is done.
+fn commits_removals(alloc: Global, keeper: &mut KeeperMem) -> Result<bool, NoMemory> {
+    let changes = removals(alloc)?;
+    let failed = keeper.commit(alloc, &changes) == Committed::Fault && keeper.rows().len() == 3;
+    Ok(failed && keeper.commit(alloc, &changes) == Committed::Done)
+}
+
+fn fails_to_load(alloc: Global, keeper: &mut KeeperMem) -> Result<bool, NoMemory> {
+    let rows = rows(alloc, &[[1, 9, 8], [2, 1, 6]])?;
+    let failed = keeper.load(alloc) == Loaded::Fault && keeper.count() == 2;
+    Ok(failed && keeper.rows() == rows.as_slice())
+}
+
+fn loads_what_is_put(alloc: Global, keeper: &mut KeeperMem) -> bool {
+    commits_puts(alloc, keeper) == Ok(true) && loads_rows(alloc, keeper) == Ok(true)
+}
+
+fn keeps_what_is_left(alloc: Global, keeper: &mut KeeperMem) -> bool {
+    commits_removals(alloc, keeper) == Ok(true) && fails_to_load(alloc, keeper) == Ok(true)
+}
+
+fn keeps_rows(alloc: Global) -> Result<bool, NoMemory> {
+    let mut keeper = keeper(alloc)?;
+    Ok(loads_what_is_put(alloc, &mut keeper) && keeps_what_is_left(alloc, &mut keeper))
 }
 
 #[test]
-fn keeps_rows_in_order_and_fails_where_it_is_told(rt: HostRuntime) -> Result<(), Fail> {
-    let alloc = rt.alloc();
-    let mut keeper = KeeperMem::of(Vec::new(alloc), vec![in alloc; 3, 5]?);
-
-    let changes = vec![in alloc;
-        put(alloc, 2, 1, 7)?,
-        put(alloc, 1, 9, 8)?,
-        put(alloc, 2, 0, 9)?,
-        put(alloc, 2, 1, 6)?,
-    ]?;
-    assert_eq!(rt; keeper.commit(alloc, &changes), Committed::Done);
-    let rows = vec![in alloc;
-        row(alloc, 1, 9, 8)?,
-        row(alloc, 2, 0, 9)?,
-        row(alloc, 2, 1, 6)?,
-    ]?;
-    assert_eq!(rt; keeper.load(alloc), Loaded::Rows(Items::of(rows)));
-
-    let changes = vec![in alloc; remove(alloc, 2, 0)?, remove(alloc, 1, 8)?]?;
-    assert_eq!(rt; keeper.commit(alloc, &changes), Committed::Fault);
-    assert_eq!(rt; keeper.rows().len(), 3);
-    assert_eq!(rt; keeper.commit(alloc, &changes), Committed::Done);
-    assert_eq!(rt; keeper.load(alloc), Loaded::Fault);
-    assert_eq!(rt; keeper.count(), 2);
-    let rows = vec![in alloc; row(alloc, 1, 9, 8)?, row(alloc, 2, 1, 6)?]?;
-    assert_eq!(rt; keeper.rows(), rows.as_slice());
-    Ok(())
+fn keeps_rows_in_order_and_fails_where_it_is_told(rt: HostRuntime) {
+    assert!(rt; keeps_rows(rt.alloc()) == Ok(true));
 }

@@ -1,12 +1,12 @@
 // A worked example of encoding, and the shares of another library.
-ghost use Rattle.std.specs.Prelude.{◌≡◌, ◌<◌};
+ghost use Rattle.std.specs.Prelude.{◌≡◌, ◌<◌, ◌≤◌, ◌*◌, length};
 
-use crate::vectors::stripes;
+use crate::schemes::scheme;
+use crate::vectors::{Stripe, stripes};
 use rs_stripe::{encode_column, encode_piece, encode_pieces, encode_share};
 use sat_base::{NoMemory, Scheme};
 use std::alloc::Global;
 use std::process::Abort;
-use std::test::Fail;
 
 // Whether the share of the data 1 and 2, and the piece of the data 1, 2 and 4, are these.
 fn are_right(
@@ -38,52 +38,67 @@ fn are_pieces(
     Ok(same)
 }
 
+// The share and the piece of each index.
+static EXPECTED: [(u8, [u8; 2]); 6] = [
+    (1, [1, 4]),
+    (2, [2, 0]),
+    (7, [7, 12]),
+    (4, [4, 8]),
+    (13, [13, 20]),
+    (14, [14, 16]),
+];
+
 #[test]
-fn worked_example(rt: HostRuntime) -> Result<(), Fail> {
-    let scheme = Scheme::check(2, 2, 3, 6, 1)?;
-    let expected = [
-        (1, [1, 4]),
-        (2, [2, 0]),
-        (7, [7, 12]),
-        (4, [4, 8]),
-        (13, [13, 20]),
-        (14, [14, 16]),
-    ];
+fn worked_example(rt: HostRuntime) {
+    let scheme = scheme(&rt, 2, 2, 3, 6, 1);
     assert!(rt; scheme.k == 2 && scheme.n == 6);
     for index in 0..6 {
-        let (share, piece) = expected[usize::from(index)];
-        let right = are_right(rt.alloc(), &scheme, index, share, &piece)?;
-        assert!(rt; right, "index {index}");
+        let (share, piece) = &EXPECTED[usize::from(index)];
+        let right = are_right(rt.alloc(), &scheme, index, *share, piece);
+        assert!(rt; right == Ok(true), "index {index}");
     }
-    let pieces: [&[u8]; 3] = [&[14, 16], &[1, 4], &[7, 12]];
-    assert!(rt; are_pieces(rt.alloc(), &scheme, &[5, 0, 2], pieces)?);
-    Ok(())
 }
 
-// Share `index` of the stripe is the one that stands at its place among the shares.
-fn assert_share(rt: &impl Abort, scheme: &Scheme, shares: &[u8], index: u8) {
+#[test]
+fn worked_pieces(rt: HostRuntime) {
+    let scheme = scheme(&rt, 2, 2, 3, 6, 1);
+    let pieces: [&[u8]; 3] = [&[14, 16], &[1, 4], &[7, 12]];
+    assert!(rt; are_pieces(rt.alloc(), &scheme, &[5, 0, 2], pieces) == Ok(true));
+}
+
+// Whether the share of the stripe has these bytes.
+fn is_share(scheme: &Scheme, stripe: &[u8], index: u8, bytes: &[u8]) -> bool
+    requires stripe { length stripe.now ≡ scheme.now.k * scheme.now.share }
+    requires index { index < scheme.now.n }
+    requires len { scheme.now.share ≤ 8 }
+{
+    let mut room = [0; 8];
+    let out = &mut room[..usize::from(scheme.share)];
+    encode_share(scheme, stripe, index, out);
+    &*out == bytes
+}
+
+// Whether share `index` of the stripe is the one that stands at its place among the shares.
+fn stands_there(rt: &impl Abort, scheme: &Scheme, shares: &[u8], index: u8) -> bool {
     let len = usize::from(scheme.share);
     let whole = usize::from(scheme.k) * len;
     let at = usize::from(index) * len;
-    let mut out = [0; 8];
     assert!(rt; index < scheme.n && len <= 8 && whole <= shares.len() && at + len <= shares.len());
-    encode_share(scheme, &shares[..whole], index, &mut out[..len]);
-    assert_eq!(rt;
-        &out[..len],
-        &shares[at..at + len],
-        "share {index} of {}",
-        scheme.k
-    );
+    is_share(scheme, &shares[..whole], index, &shares[at..at + len])
+}
+
+fn assert_shares(rt: &impl Abort, stripe: &Stripe) {
+    let k = u64::from(stripe.k);
+    let scheme = scheme(rt, k, k, k + 1, stripe.n.into(), stripe.share.into());
+    for index in 0..scheme.n {
+        let right = stands_there(rt, &scheme, stripe.shares, index);
+        assert!(rt; right, "share {index} of {k}");
+    }
 }
 
 #[test]
-fn shares_of_another_library(rt: HostRuntime) -> Result<(), Fail> {
+fn shares_of_another_library(rt: HostRuntime) {
     for stripe in stripes() {
-        let k = u64::from(stripe.k);
-        let scheme = Scheme::check(k, k, k + 1, stripe.n.into(), stripe.share.into())?;
-        for index in 0..scheme.n {
-            assert_share(&rt, &scheme, stripe.shares, index);
-        }
+        assert_shares(&rt, stripe);
     }
-    Ok(())
 }

@@ -5,10 +5,8 @@ use gf256::{add, field_laws, inv, mul, mul_add, pow, same};
 
 #[test]
 fn known_products(rt: HostRuntime) {
-    assert_eq!(rt; mul(2, 0x80), 0x1D);
-    assert_eq!(rt; inv(2), 0x8E);
-    assert_eq!(rt; pow(2, 8), 0x1D);
-    assert_eq!(rt; add(5, 3), 6);
+    let made = [mul(2, 0x80), inv(2), pow(2, 8), add(5, 3)];
+    assert!(rt; made == [0x1D, 0x8E, 0x1D, 6], "{made:?}");
     field_laws();
 }
 

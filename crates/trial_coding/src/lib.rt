@@ -23,6 +23,8 @@ mod random;
 #[cfg(test)]
 mod repairs;
 #[cfg(test)]
+mod schemes;
+#[cfg(test)]
 mod stripes;
 #[cfg(test)]
 mod systems;

@@ -2,7 +2,6 @@
 use gf_linear::{Matrix, Solved, solve};
 use sat_base::NoMemory;
 use std::alloc::Global;
-use std::test::Fail;
 
 // The solution of a system of two equations, each its two coefficients and its right side.
 fn solution_of(alloc: Global, system: [[u8; 3]; 2]) -> Result<Option<[u8; 2]>, NoMemory> {
@@ -19,24 +18,42 @@ fn solution_of(alloc: Global, system: [[u8; 3]; 2]) -> Result<Option<[u8; 2]>, N
     }
 }
 
-// The products were computed apart, modulo the polynomial 0x11D.
-#[test]
-fn systems_of_two_unknowns(rt: HostRuntime) -> Result<(), Fail> {
-    let one = solution_of(rt.alloc(), [[2, 3, 0xE5], [5, 7, 0x4E]])?;
-    assert_eq!(rt; one, Some([0x53, 0xCA]), "one solution");
-    let zero_first = solution_of(rt.alloc(), [[0, 4, 0xE7], [9, 1, 0x7A]])?;
-    assert_eq!(rt;
-        zero_first,
+// What a system is an example of, the system, and its solution. The products were computed apart, modulo the
+// polynomial 0x11D.
+static SYSTEMS: [(&str, [[u8; 3]; 2], Option<[u8; 2]>); 5] = [
+    (
+        "one solution",
+        [[2, 3, 0xE5], [5, 7, 0x4E]],
+        Some([0x53, 0xCA]),
+    ),
+    (
+        "a zero where the first pivot is sought",
+        [[0, 4, 0xE7], [9, 1, 0x7A]],
         Some([0x8E, 0xF0]),
-        "a zero where the first pivot is sought"
-    );
-    let none = solution_of(rt.alloc(), [[1, 2, 3], [2, 4, 7]])?;
-    assert_eq!(rt; none, None, "twice the first equation is another");
-    let last_free = solution_of(rt.alloc(), [[1, 2, 3], [2, 4, 6]])?;
-    assert_eq!(rt; last_free, Some([3, 0]), "the last unknown is free");
-    let first_free = solution_of(rt.alloc(), [[0, 1, 9], [0, 2, 18]])?;
-    assert_eq!(rt; first_free, Some([0, 9]), "the first unknown is free");
-    Ok(())
+    ),
+    (
+        "twice the first equation is another",
+        [[1, 2, 3], [2, 4, 7]],
+        None,
+    ),
+    (
+        "the last unknown is free",
+        [[1, 2, 3], [2, 4, 6]],
+        Some([3, 0]),
+    ),
+    (
+        "the first unknown is free",
+        [[0, 1, 9], [0, 2, 18]],
+        Some([0, 9]),
+    ),
+];
+
+#[test]
+fn systems_of_two_unknowns(rt: HostRuntime) {
+    for (name, system, solution) in &SYSTEMS {
+        let found = solution_of(rt.alloc(), *system);
+        assert!(rt; found == Ok(*solution), "{name}");
+    }
 }
 
 // Entries that are set, one beside them, and one after a reset; and the size then.
@@ -50,9 +67,6 @@ fn entries_and_size(alloc: Global) -> Result<([u8; 4], [usize; 2]), NoMemory> {
 }
 
 #[test]
-fn entries(rt: HostRuntime) -> Result<(), Fail> {
-    let (entries, size) = entries_and_size(rt.alloc())?;
-    assert_eq!(rt; entries, [7, 9, 0, 0]);
-    assert_eq!(rt; size, [2, 6]);
-    Ok(())
+fn entries(rt: HostRuntime) {
+    assert!(rt; entries_and_size(rt.alloc()) == Ok(([7, 9, 0, 0], [2, 6])));
 }

@@ -5,12 +5,12 @@ ghost use Rattle.repair_core.specs.Kept.{IsKept};
 
 use crate::indexes::{are_among, are_rising, indexes_in};
 use crate::repairs::{NONE, Pieces, plan, shares};
+use crate::schemes::scheme;
 use bw_decode::Scratch;
 use repair_core::{Rebuilder, Remade, WindowErr};
 use sat_base::{NoMemory, Scheme, Share};
 use std::alloc::Global;
 use std::process::Abort;
-use std::test::Fail;
 
 /// What the windows of a rebuilding have in common.
 #[derive(Drop)]
@@ -110,15 +110,15 @@ fn remade(
     rt: &impl Abort,
     alloc: Global,
     windows: &[Pieces],
-) -> Result<Result<Remade, WindowErr>, Fail> {
-    let scheme = Scheme::check(2, 2, 3, 6, 1)?;
+) -> Result<Result<Remade, WindowErr>, NoMemory> {
+    let scheme = scheme(rt, 2, 2, 3, 6, 1);
     let repair = Repair {
         scheme,
         sources: &[0, 1, 2, 3],
         count: scheme.stripes(3),
     };
     let mut scratch = Scratch::new(alloc, &scheme)?;
-    Ok(remade_in(rt, alloc, &mut scratch, &repair, 3, windows)?)
+    remade_in(rt, alloc, &mut scratch, &repair, 3, windows)
 }
 
 // Whether these are blamed, and the fresh piece is the one.
@@ -130,34 +130,57 @@ fn is_remade(made: &Remade, blamed: &[u8]) -> bool {
     made.blamed.as_slice() == blamed && fresh[0].bytes.as_slice() == [13, 20].as_slice()
 }
 
-fn blames(rt: &impl Abort, alloc: Global, windows: &[Pieces], blamed: &[u8]) -> Result<bool, Fail> {
+fn blames(
+    rt: &impl Abort,
+    alloc: Global,
+    windows: &[Pieces],
+    blamed: &[u8],
+) -> Result<bool, NoMemory> {
     Ok(match remade(rt, alloc, windows)? {
         Ok(made) => is_remade(&made, blamed),
         Err(_) => false,
     })
 }
 
+const FIRST: Pieces<'static> = &[(0, &[1]), (1, &[2]), (2, &[7]), (3, &[4])];
+
+const ALTERED: Pieces<'static> = &[(0, &[4]), (1, &[0]), (2, &[12]), (3, &[9])];
+
+const SILENT: Pieces<'static> = &[(0, &[4]), (1, &[0]), (2, &[12])];
+
+const LONG: Pieces<'static> = &[(0, &[4]), (1, &[0]), (2, &[12, 12]), (3, &[8])];
+
+const EMPTY: Pieces<'static> = &[(0, &[1]), (1, &[]), (2, &[7]), (3, &[4])];
+
+// Two windows, and who is blamed.
+static BLAMES: [([Pieces<'static>; 2], &[u8]); 4] = [
+    ([FIRST, ALTERED], &[3]),
+    ([FIRST, SILENT], NONE),
+    ([FIRST, LONG], &[2]),
+    ([EMPTY, SILENT], &[1]),
+];
+
 #[test]
-fn rebuilds_in_windows(rt: HostRuntime) -> Result<(), Fail> {
-    let alloc = rt.alloc();
-    let first: Pieces = &[(0, &[1]), (1, &[2]), (2, &[7]), (3, &[4])];
-    let altered: Pieces = &[(0, &[4]), (1, &[0]), (2, &[12]), (3, &[9])];
-    let silent: Pieces = &[(0, &[4]), (1, &[0]), (2, &[12])];
-    let long: Pieces = &[(0, &[4]), (1, &[0]), (2, &[12, 12]), (3, &[8])];
-    let cases: [(Pieces, Pieces, &[u8]); 4] = [
-        (first, altered, &[3]),
-        (first, silent, NONE),
-        (first, long, &[2]),
-        (&[(0, &[1]), (1, &[]), (2, &[7]), (3, &[4])], silent, &[1]),
-    ];
-    for (one, other, blamed) in cases {
-        let right = blames(&rt, alloc, &[one, other], blamed)?;
-        assert!(rt; right, "{blamed:?}");
+fn rebuilds_in_windows(rt: HostRuntime) {
+    for (windows, blamed) in &BLAMES {
+        let right = blames(&rt, rt.alloc(), windows, blamed);
+        assert!(rt; right == Ok(true), "{blamed:?}");
     }
-    let few = remade(&rt, alloc, &[first, &[(2, &[12])]])?.err();
-    assert_eq!(rt; few, Some(WindowErr::Few { answered: 1 }));
-    let unclear = [first, &[(0, &[4]), (1, &[1]), (2, &[12])]];
-    let unclear = remade(&rt, alloc, &unclear)?.err();
-    assert_eq!(rt; unclear, Some(WindowErr::Unclear { stripe: 1 }));
-    Ok(())
+}
+
+fn refusal(
+    rt: &impl Abort,
+    alloc: Global,
+    windows: &[Pieces],
+) -> Result<Option<WindowErr>, NoMemory> {
+    Ok(remade(rt, alloc, windows)?.err())
+}
+
+#[test]
+fn refuses_windows(rt: HostRuntime) {
+    let few = refusal(&rt, rt.alloc(), &[FIRST, &[(2, &[12])]]);
+    assert!(rt; few == Ok(Some(WindowErr::Few { answered: 1 })));
+    let unclear: Pieces = &[(0, &[4]), (1, &[1]), (2, &[12])];
+    let unclear = refusal(&rt, rt.alloc(), &[FIRST, unclear]);
+    assert!(rt; unclear == Ok(Some(WindowErr::Unclear { stripe: 1 })));
 }

@@ -3,6 +3,7 @@ ghost use Rattle.std.specs.Prelude.{◌≡◌, ◌≤◌, ◌^◌, IfOk};
 ghost use Rattle.sat_base.specs.Scheme.{stripe_count};
 ghost use Rattle.repair_core.specs.Kept.{IsKept};
 
+use crate::schemes::scheme;
 use crate::whole::whole;
 use crate::windows::{Repair, begin, next};
 use bw_decode::Scratch;
@@ -11,7 +12,6 @@ use rs_stripe::encode_piece;
 use sat_base::{Items, NoMemory, Scheme, Share};
 use std::alloc::Global;
 use std::process::Abort;
-use std::test::Fail;
 
 // What stands in the pieces from byte `from` up to byte `to`.
 fn cut(alloc: Global, pieces: &[Share], from: usize, to: usize) -> Result<Vec<Share>, NoMemory> {
@@ -162,8 +162,8 @@ fn spoilt_agree(
 }
 
 #[test]
-fn windows_are_as_the_whole(rt: HostRuntime) -> Result<(), Fail> {
-    let scheme = Scheme::check(3, 3, 4, 9, 2)?;
+fn windows_are_as_the_whole(rt: HostRuntime) {
+    let scheme = scheme(&rt, 3, 3, 4, 9, 2);
     let mut segment = [0; 41];
     let mut product = 0u8;
     for byte in segment.iter_mut() {
@@ -179,8 +179,7 @@ fn windows_are_as_the_whole(rt: HostRuntime) -> Result<(), Fail> {
     let few: &[(u8, usize)] = &[(5, 0), (5, 13), (8, 4)];
     let many: &[(u8, usize)] = &[(2, 8), (3, 8), (6, 9)];
     for spoilt in [none, few, many] {
-        let same = spoilt_agree(&rt, rt.alloc(), &repair, &segment, spoilt)?;
-        assert!(rt; same, "{spoilt:?}");
+        let same = spoilt_agree(&rt, rt.alloc(), &repair, &segment, spoilt);
+        assert!(rt; same == Ok(true), "{spoilt:?}");
     }
-    Ok(())
 }

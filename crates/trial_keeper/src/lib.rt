@@ -4,12 +4,12 @@
 #![tactic(auto)]
 
 #[cfg(test)]
-mod bad_input;
-#[cfg(test)]
 mod changes;
 #[cfg(test)]
 mod files;
 #[cfg(test)]
-mod order;
+mod in_memory;
+#[cfg(test)]
+mod serving;
 #[cfg(test)]
 mod stops;

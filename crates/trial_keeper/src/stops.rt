@@ -1,12 +1,10 @@
 // A stop at each call of a file: what was acknowledged is there when it is opened again.
-ghost use Rattle.std.specs.Prelude.{◌≡◌, false};
-
 use crate::changes::put;
-use crate::files::{connect, empty_files, files_of};
-use keeper_sqlite::KeeperSqlite;
-use sat_base::{Change, Committed, Items, Keeper, KeeperMem, Loaded, NoMemory, Row};
-use sqlite::{Alter, Connection, Files};
-use sqlite_disk::{Crash, Disk};
+use crate::files::{Fused, empty_files, run};
+use crate::serving::{Answers, Asked, Errand, Outcome, ask};
+use sat_base::{Change, Committed, KeeperMem, Loaded, NoMemory, Row};
+use sqlite::Files;
+use sqlite_disk::Crash;
 use std::alloc::Global;
 use std::test::Fail;
 
@@ -18,191 +16,148 @@ fn numbered(alloc: Global, number: u8) -> Result<Vec<Change>, NoMemory> {
     Ok(changes)
 }
 
-/// Whether the rows are those after so many commits.
-fn are_after(alloc: Global, rows: &[Row], commits: u8) -> Result<bool, Fail> {
-    let mut model = KeeperMem::of(Vec::new(alloc), Vec::new(alloc));
-    for number in 0..commits {
-        if model.commit(alloc, &numbered(alloc, number)?) != Committed::Done {
-            return Err("memory")?;
-        }
+/// The first so many commits.
+fn commits(alloc: Global, count: usize) -> Result<Vec<Vec<Change>>, NoMemory> {
+    let mut commits = Vec::new(alloc);
+    for number in [0, 1, 2].iter().take(count) {
+        commits.push(numbered(alloc, *number)?)?;
     }
-    Ok(model.rows() == rows)
+    Ok(commits)
 }
 
-// What is called over any store stands in functions over any store, which prove faster than over files.
-
-/// The rows of a connection's database, unless a keeper is refused or fails.
-fn rows_of<S: Alter + Drop>(alloc: Global, conn: Connection<S>) -> Option<Items<Row>>
-    requires { conn.in_transaction ≡ false }
-{
-    let Ok(mut keeper) = KeeperSqlite::of(conn) else {
-        return None;
+/// Whether these are the rows of a keeper in memory after so many commits.
+fn are_after(alloc: Global, rows: &[Row], count: usize) -> Result<bool, NoMemory> {
+    let commits = commits(alloc, count)?;
+    let mut model = KeeperMem::of(Vec::new(alloc), Vec::new(alloc));
+    let asked = Asked {
+        commits: commits.as_slice(),
+        loads: false,
     };
-    match keeper.load(alloc) {
-        Loaded::Rows(rows) => Some(rows),
-        Loaded::Fault | Loaded::NoMemory => None,
+    let answers = ask(alloc, &mut model, asked);
+    Ok(answers.done == count && model.rows() == rows)
+}
+
+/// Whether what was loaded is what so many commits made, or one more.
+fn is_after(alloc: Global, loaded: &Option<Loaded>, done: usize) -> Result<bool, NoMemory> {
+    match loaded {
+        Some(Loaded::Rows(rows)) => Ok(
+            are_after(alloc, rows.as_slice(), done)?
+                || are_after(alloc, rows.as_slice(), done.saturating_add(1))?,
+        ),
+        _ => Ok(false),
     }
 }
 
 /// Crashes, opens the files again, and loads what they hold.
-fn rows_after_crash<D: Disk + Crash + Drop>(
-    alloc: Global,
-    mut files: Files<D>,
-) -> Option<Items<Row>> {
+fn load_after_crash(alloc: Global, mut files: Files<Fused>) -> Option<Loaded> {
     files.log.crash();
     files.db.crash();
-    match connect(alloc, files) {
-        Ok(conn) => rows_of(alloc, conn),
-        Err(_) => None,
+    let asked = Asked {
+        commits: &[],
+        loads: true,
+    };
+    let (_files, outcome) = run(alloc, files, Errand::Ask(asked));
+    match outcome {
+        Outcome::Answered(answers) => answers.loaded,
+        _ => None,
     }
 }
 
-/// Whether the files hold after a crash what so many commits made, or one more.
-fn holds_after<D: Disk + Crash + Drop>(
-    alloc: Global,
-    files: Files<D>,
-    commits: u8,
-) -> Result<bool, Fail> {
-    match rows_after_crash(alloc, files) {
-        Some(rows) => Ok(
-            are_after(alloc, rows.as_slice(), commits)?
-                || are_after(alloc, rows.as_slice(), commits.saturating_add(1))?,
-        ),
-        None => Ok(false),
-    }
-}
-
-const COMMITS: u8 = 2;
+const COMMITS: usize = 2;
 
 /// Where a run of commits ended.
 #[derive(Clone, Copy)]
 struct End {
     /// So many commits were done.
-    done: u8,
-    /// The count of faults is 1 where one failed, and else 0.
-    counted: bool,
+    done: usize,
+    /// A call was refused.
+    stopped: bool,
+    /// What was answered fits: the count of faults is 1 where a commit failed, and else 0.
+    fits: bool,
 }
 
-fn commit_all<K: Keeper>(alloc: Global, keeper: &mut K) -> Result<End, NoMemory> {
-    for number in 0..COMMITS {
-        let answer = keeper.commit(alloc, &numbered(alloc, number)?);
-        if answer != Committed::Done {
-            let counted = answer == Committed::Fault && keeper.count() == 1;
-            return Ok(End {
-                done: number,
-                counted,
-            });
+fn end_of(answers: &Answers) -> End {
+    let stopped = answers.done < COMMITS;
+    let fits = if stopped {
+        answers.last == Committed::Fault && answers.faults == 1
+    } else {
+        answers.faults == 0
+    };
+    End {
+        done: answers.done,
+        stopped,
+        fits,
+    }
+}
+
+/// Makes the table and commits, over empty files that answer so many calls, and gives them back.
+fn commit_until_stopped(
+    alloc: Global,
+    commits: &[Vec<Change>],
+    log: u64,
+    db: u64,
+) -> (Option<Files<Fused>>, End) {
+    let asked = Asked {
+        commits,
+        loads: false,
+    };
+    let (files, outcome) = run(alloc, empty_files(alloc, log, db), Errand::Ask(asked));
+    let mut end = End {
+        done: 0,
+        stopped: true,
+        fits: true,
+    };
+    match outcome {
+        Outcome::Answered(answers) => (files, end_of(&answers)),
+        Outcome::Unopened => (files, end),
+        // a keeper that is refused drops the files, so they are seen where its statement is refused at the same call
+        Outcome::Refused | Outcome::Made => {
+            let (files, outcome) = run(alloc, empty_files(alloc, log, db), Errand::Create);
+            end.fits = matches!(outcome, Outcome::Refused);
+            (files, end)
         }
     }
-    let counted = keeper.count() == 0;
-    Ok(End {
-        done: COMMITS,
-        counted,
-    })
 }
 
-/// Makes the table and commits, unless a keeper is refused.
-fn commit_over<S: Alter + Drop>(
-    alloc: Global,
-    conn: Connection<S>,
-) -> Result<Option<(Connection<S>, End)>, NoMemory>
-    requires { conn.in_transaction ≡ false }
-{
-    let Ok(mut keeper) = KeeperSqlite::of(conn) else {
+/// Whether a run came to its end, or none where it went wrong: where an answer doesn't fit, or where opening the files
+/// again after a crash found what it may not find.
+fn has_ended(alloc: Global, log: u64, db: u64) -> Result<Option<bool>, NoMemory> {
+    let commits = commits(alloc, COMMITS)?;
+    let (files, end) = commit_until_stopped(alloc, commits.as_slice(), log, db);
+    let Some(files) = files else {
         return Ok(None);
     };
-    let end = commit_all(alloc, &mut keeper)?;
-    Ok(Some((keeper.into_connection(), end)))
+    let loaded = load_after_crash(alloc, files);
+    let good = end.fits && is_after(alloc, &loaded, end.done)?;
+    Ok(if good { Some(!end.stopped) } else { None })
 }
 
-const CREATE: &str =
-    "CREATE TABLE IF NOT EXISTS record(kind INTEGER NOT NULL, id BLOB NOT NULL, body BLOB NOT NULL, PRIMARY KEY(kind, id)) STRICT";
-
-/// Makes the table by the statement that a keeper makes it by, and tells whether that is refused.
-fn is_refused<S: Alter>(conn: &mut Connection<S>) -> bool
-    requires { conn.old.in_transaction ≡ false }
-{
-    let mut tx = conn.transaction();
-    match tx.execute(CREATE, &[]) {
-        Ok(_) => tx.commit().is_err(),
-        Err(_) => true,
-    }
-}
-
-/// What the files hold where a keeper is refused. It drops them then, so they are seen where its statement is refused at
-/// the same call.
-fn holds_where_refused<D: Disk + Crash + Drop>(
-    alloc: Global,
-    files: Files<D>,
-) -> Result<bool, Fail> {
-    let Ok(mut conn) = connect(alloc, files) else {
-        return Ok(false);
-    };
-    Ok(is_refused(&mut conn) && holds_after(alloc, files_of(conn), 0)?)
-}
-
-enum Outcome {
-    /// It came to its end.
-    Ended,
-    /// A call was refused, and opening again found what it may find.
-    Stopped,
-    /// Something is wrong.
-    Wrong,
-}
-
-fn verdict(stopped: bool, good: bool) -> Outcome {
-    match (stopped, good) {
-        (_, false) => Outcome::Wrong,
-        (true, true) => Outcome::Stopped,
-        (false, true) => Outcome::Ended,
-    }
-}
-
-/// Makes the table and commits, over empty files. `others` are such files too.
-fn commit_until_stopped<D: Disk + Crash + Drop>(
-    alloc: Global,
-    files: Files<D>,
-    others: Files<D>,
-) -> Result<Outcome, Fail> {
-    let conn = match connect(alloc, files) {
-        Ok(conn) => conn,
-        Err(Some(files)) => return Ok(verdict(true, holds_after(alloc, files, 0)?)),
-        Err(None) => return Ok(Outcome::Wrong),
-    };
-    match commit_over(alloc, conn)? {
-        Some((conn, end)) => {
-            let good = holds_after(alloc, files_of(conn), end.done)?;
-            Ok(verdict(end.done < COMMITS, end.counted && good))
-        }
-        None => {
-            let good = holds_where_refused(alloc, others)?;
-            Ok(verdict(true, good))
+/// After how many calls of the log, or of the database, a run comes to its end. None where a run went wrong, or where
+/// none comes to its end.
+fn calls_of_a_run(alloc: Global, stops_log: bool) -> Result<Option<u64>, NoMemory> {
+    for calls in 0..100 {
+        let ended = if stops_log {
+            has_ended(alloc, calls, u64::MAX)?
+        } else {
+            has_ended(alloc, u64::MAX, calls)?
+        };
+        match ended {
+            Some(false) => {}
+            Some(true) => return Ok(Some(calls)),
+            None => return Ok(None),
         }
     }
+    Ok(None)
 }
 
 #[test]
 fn a_stop_at_each_call_leaves_what_was_acknowledged(rt: HostRuntime) -> Result<(), Fail> {
-    let alloc = rt.alloc();
     for stops_log in [true, false] {
-        let mut ended = false;
-        for calls in 0..100 {
-            let (log, db) = if stops_log {
-                (calls, u64::MAX)
-            } else {
-                (u64::MAX, calls)
-            };
-            let (files, others) = (empty_files(alloc, log, db), empty_files(alloc, log, db));
-            match commit_until_stopped(alloc, files, others)? {
-                Outcome::Stopped => {}
-                Outcome::Ended => {
-                    ended = true;
-                    break;
-                }
-                Outcome::Wrong => return Err("a stop lost or made a row")?,
-            }
-        }
-        assert!(rt; ended, "no run came to its end");
+        let calls = calls_of_a_run(rt.alloc(), stops_log)?;
+        assert!(rt;
+            calls.is_some(),
+            "a stop lost or made a row, or no run came to its end"
+        );
     }
     Ok(())
 }

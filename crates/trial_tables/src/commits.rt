@@ -3,17 +3,27 @@ use crate::sample::{pending, place};
 use sat_base::{At, NoMemory, Scheme};
 use segment_core::{CommitErr, Segment, commit};
 use std::alloc::Global;
-use std::test::Fail;
+use std::process::Abort;
 
 // A segment that is committed with these pieces where 110 places are offered and 80 pieces wanted.
-fn committed(alloc: Global, indexes: &[u8]) -> Result<Result<Segment, CommitErr>, Fail> {
-    let scheme = Scheme::check(29, 35, 80, 110, 256)?;
+fn committed(
+    alloc: Global,
+    scheme: &Scheme,
+    indexes: &[u8],
+) -> Result<Result<Segment, CommitErr>, NoMemory> {
     let segment = pending(alloc, scheme.n)?;
-    Ok(commit(alloc, &segment, &scheme, indexes))
+    Ok(commit(alloc, &segment, scheme, indexes))
 }
 
-fn refused(alloc: Global, indexes: &[u8]) -> Result<Option<CommitErr>, Fail> {
-    Ok(committed(alloc, indexes)?.err())
+fn refused(alloc: Global, scheme: &Scheme, indexes: &[u8]) -> Result<Option<CommitErr>, NoMemory> {
+    Ok(committed(alloc, scheme, indexes)?.err())
+}
+
+fn scheme(rt: &impl Abort) -> Scheme {
+    match Scheme::check(29, 35, 80, 110, 256) {
+        Ok(scheme) => scheme,
+        Err(_) => panic!(rt; "no scheme"),
+    }
 }
 
 // The indexes below `count`, falling.
@@ -21,7 +31,7 @@ fn falling(alloc: Global, count: u8) -> Result<Vec<u8>, NoMemory> {
     Ok((0..count).rev().collect(alloc)?)
 }
 
-#[derive(Clone, Copy, Debug, PartialEq, Eq)]
+#[derive(Clone, Copy, PartialEq, Eq)]
 struct Summary {
     version: u64,
     len: u64,
@@ -39,37 +49,39 @@ fn sum_up(segment: &Segment) -> Summary {
     }
 }
 
-fn summary_of(alloc: Global, indexes: &[u8]) -> Result<Option<Summary>, Fail> {
-    Ok(
-        committed(alloc, indexes)?
-            .ok()
-            .map(|segment| sum_up(&segment)),
-    )
+// What is committed with the first 80 pieces.
+fn summary_of_80(alloc: Global, scheme: &Scheme) -> Result<Option<Summary>, NoMemory> {
+    let indexes = falling(alloc, 80)?;
+    Ok(match committed(alloc, scheme, &indexes)? {
+        Ok(segment) => Some(sum_up(&segment)),
+        Err(_) => None,
+    })
 }
 
 #[test]
-fn commits_the_wanted_pieces(rt: HostRuntime) -> Result<(), Fail> {
-    let indexes = falling(rt.alloc(), 80)?;
+fn commits_the_wanted_pieces(rt: HostRuntime) {
     let want = Summary {
         version: 1,
         len: 7424,
         pieces: 80,
         ends: [Some(place(0)), Some(place(79))],
     };
-    assert_eq!(rt; summary_of(rt.alloc(), &indexes)?, Some(want));
-    Ok(())
+    assert!(rt; summary_of_80(rt.alloc(), &scheme(&rt)) == Ok(Some(want)));
+}
+
+fn refused_79(alloc: Global, scheme: &Scheme) -> Result<Option<CommitErr>, NoMemory> {
+    let few = falling(alloc, 79)?;
+    refused(alloc, scheme, &few)
 }
 
 #[test]
-fn refuses_by_the_first_cause(rt: HostRuntime) -> Result<(), Fail> {
-    let few = falling(rt.alloc(), 79)?;
-    let cases: [(&[u8], CommitErr); 3] = [
-        (&few, CommitErr::TooFew { have: 79, need: 80 }),
-        (&[5, 7, 9, 7, 5], CommitErr::Repeated { index: 7 }),
-        (&[5, 5, 110, 111], CommitErr::NotOffered { index: 110 }),
-    ];
-    for (indexes, want) in cases {
-        assert_eq!(rt; refused(rt.alloc(), indexes)?, Some(want));
-    }
-    Ok(())
+fn refuses_by_the_first_cause(rt: HostRuntime) {
+    let alloc = rt.alloc();
+    let scheme = scheme(&rt);
+    let few = refused_79(alloc, &scheme);
+    assert!(rt; few == Ok(Some(CommitErr::TooFew { have: 79, need: 80 })));
+    let repeated = refused(alloc, &scheme, &[5, 7, 9, 7, 5]);
+    assert!(rt; repeated == Ok(Some(CommitErr::Repeated { index: 7 })));
+    let strange = refused(alloc, &scheme, &[5, 5, 110, 111]);
+    assert!(rt; strange == Ok(Some(CommitErr::NotOffered { index: 110 })));
 }

@@ -2,9 +2,8 @@
 use rows::{BlockRows, Rows, SlottedRows};
 use sat_base::{NoMemory, Ranked};
 use std::alloc::Global;
-use std::test::Fail;
 
-#[derive(Clone, Copy, Debug, PartialEq, Eq)]
+#[derive(Clone, Copy, PartialEq, Eq)]
 struct Mark {
     place: u128,
 }
@@ -100,12 +99,11 @@ fn both_filled(alloc: Global, order: u8) -> Result<[Option<usize>; 3], NoMemory>
 }
 
 #[test]
-fn rows_that_rise_fall_and_spread(rt: HostRuntime) -> Result<(), Fail> {
+fn rows_that_rise_fall_and_spread(rt: HostRuntime) {
     let want = [Some(0), Some(2000), Some(500)];
     for order in 0..3 {
-        assert_eq!(rt; both_filled(rt.alloc(), order)?, want, "{order}");
+        assert!(rt; both_filled(rt.alloc(), order) == Ok(want), "{order}");
     }
-    Ok(())
 }
 
 // The places of the rows, one after another.
@@ -140,12 +138,11 @@ fn walks(alloc: Global) -> Result<[[Option<u128>; 4]; 3], NoMemory> {
 }
 
 #[test]
-fn walks_over_empty_slots(rt: HostRuntime) -> Result<(), Fail> {
+fn walks_over_empty_slots(rt: HostRuntime) {
     let want = [
         [None; 4],
         [Some(5), Some(8), Some(20), None],
         [Some(8), None, None, None],
     ];
-    assert!(rt; walks(rt.alloc())? == want);
-    Ok(())
+    assert!(rt; walks(rt.alloc()) == Ok(want));
 }

@@ -6,7 +6,6 @@ use node_registry::{AddErr, Node, NodeTable, Status};
 use placement::{PlaceErr, place};
 use sat_base::{Moment, NodeId};
 use std::alloc::Global;
-use std::test::Fail;
 
 // Adds the next node.
 fn add(
@@ -31,7 +30,7 @@ fn add(
 }
 
 // So many nodes, each in a subnet of its own, with so many passes.
-fn apart(alloc: Global, number: u32, passes: u32) -> Result<NodeTable, Fail> {
+fn apart(alloc: Global, number: u32, passes: u32) -> Result<NodeTable, AddErr> {
     let mut table = NodeTable::new(alloc);
     for i in 0..number {
         add(&mut table, i << 8, 1 << 40, passes, Status::Active)?;
@@ -57,44 +56,79 @@ fn placed(alloc: Global, table: &NodeTable, wish: &Wish<'_>) -> Result<Vec<NodeI
     Ok(ids.into_vec())
 }
 
-#[test]
-fn picks_by_words(rt: HostRuntime) -> Result<(), Fail> {
-    let mut table = NodeTable::new(rt.alloc());
+// Four nodes, two of them in one subnet.
+fn four(alloc: Global) -> Result<NodeTable, AddErr> {
+    let mut table = NodeTable::new(alloc);
     for addr in [0x0a00_0101, 0x0a00_0102, 0x0a00_0201, 0x0a00_0301] {
         add(&mut table, addr, 1 << 40, 100, Status::Active)?;
     }
-    let ids = place(rt.alloc(), &table, 100, 3, 0, &[], 1 << 40, &[5, 5, 5])?;
-    assert_eq!(rt;
-        ids.as_slice(),
-        [NodeId(2), NodeId(4), NodeId(3)].as_slice()
-    );
-    let few = place(rt.alloc(), &table, 100, 4, 0, &[], 1 << 40, &[5, 5, 5, 5]);
-    assert_eq!(rt; few.err(), Some(PlaceErr::Few { chosen: 3 }));
-    Ok(())
+    Ok(table)
+}
+
+fn picked(
+    alloc: Global,
+    table: &NodeTable,
+    need: u8,
+    words: &[u64],
+) -> Result<Vec<NodeId>, PlaceErr> {
+    let wish = Wish {
+        nodes: table.nodes(),
+        vet: 100,
+        need,
+        fresh: 0,
+        taken: &[],
+        piece_len: 1 << 40,
+        words,
+    };
+    placed(alloc, table, &wish)
+}
+
+fn picks_three(alloc: Global, table: &NodeTable) -> bool {
+    match picked(alloc, table, 3, &[5, 5, 5]) {
+        Ok(ids) => ids.as_slice() == [NodeId(2), NodeId(4), NodeId(3)].as_slice(),
+        Err(_) => false,
+    }
+}
+
+fn refuses_four(alloc: Global, table: &NodeTable) -> bool {
+    picked(alloc, table, 4, &[5, 5, 5, 5]).err() == Some(PlaceErr::Few { chosen: 3 })
+}
+
+fn picks(alloc: Global) -> Result<bool, AddErr> {
+    let table = four(alloc)?;
+    Ok(picks_three(alloc, &table) && refuses_four(alloc, &table))
 }
 
 #[test]
-fn wants_as_many_subnets_as_picks(rt: HostRuntime) -> Result<(), Fail> {
-    let words = vec![in rt.alloc(); 7u64; 110]?;
-    for (number, passes, result) in [
-        (100, 100, Err(PlaceErr::Few { chosen: 100 })),
-        (110, 100, Ok(110)),
-        (110, 0, Ok(110)),
-    ] {
-        let table = apart(rt.alloc(), number, passes)?;
-        let wish = Wish {
-            nodes: table.nodes(),
-            vet: 100,
-            need: 110,
-            fresh: 5,
-            taken: &[],
-            piece_len: 1,
-            words: &words,
-        };
-        let number = placed(rt.alloc(), &table, &wish).map(|ids| ids.len());
-        assert_eq!(rt; number, result);
-    }
-    Ok(())
+fn picks_by_words(rt: HostRuntime) {
+    assert!(rt; picks(rt.alloc()) == Ok(true));
+}
+
+// How many of so many nodes are picked where 110 are wanted.
+fn number_of_110(alloc: Global, table: &NodeTable) -> Result<usize, PlaceErr> {
+    let wish = Wish {
+        nodes: table.nodes(),
+        vet: 100,
+        need: 110,
+        fresh: 5,
+        taken: &[],
+        piece_len: 1,
+        words: &[7; 110],
+    };
+    placed(alloc, table, &wish).map(|ids| ids.len())
+}
+
+fn number(alloc: Global, nodes: u32, passes: u32) -> Result<Result<usize, PlaceErr>, AddErr> {
+    let table = apart(alloc, nodes, passes)?;
+    Ok(number_of_110(alloc, &table))
+}
+
+#[test]
+fn wants_as_many_subnets_as_picks(rt: HostRuntime) {
+    let alloc = rt.alloc();
+    assert!(rt; number(alloc, 100, 100) == Ok(Err(PlaceErr::Few { chosen: 100 })));
+    assert!(rt; number(alloc, 110, 100) == Ok(Ok(110)));
+    assert!(rt; number(alloc, 110, 0) == Ok(Ok(110)));
 }
 
 // The next of a row of random numbers (Knuth's MMIX).
@@ -109,7 +143,7 @@ fn random(state: &mut u64, below: u32) -> u32
 }
 
 // A random table: few subnets, and nodes of which some are full, some not active, and some vetted.
-fn sample(alloc: Global, state: &mut u64) -> Result<NodeTable, Fail> {
+fn sample(alloc: Global, state: &mut u64) -> Result<NodeTable, AddErr> {
     let mut table = NodeTable::new(alloc);
     for _ in 0..random(state, 700) {
         let addr = random(state, 60) << 8 | random(state, 256);
@@ -141,19 +175,25 @@ fn are_same(alloc: Global, table: &NodeTable, words: &[u64], state: &mut u64) ->
     placed(alloc, table, &wish) == plain(alloc, &wish)
 }
 
+fn random_words(state: &mut u64) -> [u64; 60] {
+    let mut words = [0; 60];
+    for word in words.iter_mut() {
+        *word = u64::from(random(state, 1 << 31));
+    }
+    words
+}
+
+// Whether both say the same of a random wish at a random table.
+fn agree(alloc: Global, state: &mut u64) -> Result<bool, AddErr> {
+    let table = sample(alloc, state)?;
+    let words = random_words(state);
+    Ok(are_same(alloc, &table, &words, state))
+}
+
 #[test]
-fn agrees_with_the_plain_placement(rt: HostRuntime) -> Result<(), Fail> {
+fn agrees_with_the_plain_placement(rt: HostRuntime) {
     let mut state = 1;
     for turn in 0..60u8 {
-        let table = sample(rt.alloc(), &mut state)?;
-        let mut words = [0; 60];
-        for word in words.iter_mut() {
-            *word = u64::from(random(&mut state, 1 << 31));
-        }
-        assert!(rt;
-            are_same(rt.alloc(), &table, &words, &mut state),
-            "turn {turn}"
-        );
+        assert!(rt; agree(rt.alloc(), &mut state) == Ok(true), "turn {turn}");
     }
-    Ok(())
 }

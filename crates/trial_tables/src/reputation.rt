@@ -20,6 +20,20 @@ fn node(status: Status) -> Node
     }
 }
 
+fn is_scored(node: &Node, alpha: u32, beta: u32, points: u32) -> bool
+    requires { IsRated node.now }
+{
+    node.alpha == alpha && node.beta == beta && score(node) == points
+}
+
+// Whether the node is disqualified, and stays as it is.
+fn is_out(node: &Node) -> bool
+    requires { IsRated node.now }
+{
+    let out = node.status == Status::Disqualified && !node.counts() && !node.serves();
+    out && after(node, Outcome::Pass) == *node
+}
+
 #[test]
 fn the_sixth_fail_disqualifies(rt: HostRuntime) {
     let mut node = node(Status::Active);
@@ -31,27 +45,23 @@ fn the_sixth_fail_disqualifies(rt: HostRuntime) {
         (7736, 4523, 631),
         (7349, 5296, 581),
     ] {
-        assert_eq!(rt; node.status, Status::Active);
+        assert!(rt; node.status == Status::Active);
         node = after(&node, Outcome::Fail);
-        assert_eq!(rt;
-            (node.alpha, node.beta, score(&node)),
-            (alpha, beta, points)
-        );
+        assert!(rt; is_scored(&node, alpha, beta, points));
     }
-    assert_eq!(rt; node.status, Status::Disqualified);
-    assert!(rt; !node.counts() && !node.serves());
-    assert_eq!(rt; after(&node, Outcome::Pass), node);
+    assert!(rt; is_out(&node));
+}
+
+fn is_left_alone(exited: &Node) -> bool
+    requires { IsRated exited.now }
+{
+    after(exited, Outcome::Fail) == *exited && exited.status.byte() == 3
 }
 
 #[test]
 fn only_a_serving_node_is_rated(rt: HostRuntime) {
-    let exited = node(Status::Exited);
-    assert_eq!(rt; after(&exited, Outcome::Fail), exited);
-    assert_eq!(rt; exited.status.byte(), 3);
+    assert!(rt; is_left_alone(&node(Status::Exited)));
     let exiting = after(&node(Status::Exiting), Outcome::Pass);
-    assert_eq!(rt;
-        (exiting.alpha, exiting.beta, exiting.passes),
-        (10500, 0, 1)
-    );
+    assert!(rt; exiting.alpha == 10500 && exiting.beta == 0 && exiting.passes == 1);
     assert!(rt; exiting.counts() && exiting.status == Status::Exiting);
 }

@@ -1,5 +1,5 @@
 // Statements of worked closings, and the rates of months.
-use crate::closings::cases;
+use crate::closings::{Case, cases};
 use sat_base::{Month, NodeId, Rates, Tariff};
 use std::process::Abort;
 use tally_payout::{Statement, Sums, close_node, rates_in};
@@ -44,47 +44,50 @@ fn parts_of(s: &Statement) -> [u128; 5] {
     ]
 }
 
-#[test]
-fn statements_of_months(rt: HostRuntime) {
-    for case in cases() {
-        let s = closed(&rt, case.age, case.marks, case.sums, case.pot, case.rates);
-        let rest = [s.percent as u128, s.held, s.paid, s.returned, s.pot];
-        assert_eq!(rt; parts_of(&s), case.parts, "at age {}", case.age);
-        assert_eq!(rt; rest, case.rest, "at age {}", case.age);
-    }
+fn rest_of(s: &Statement) -> [u128; 5] {
+    [s.percent as u128, s.held, s.paid, s.returned, s.pot]
+}
+
+fn is_closed(rt: &impl Abort, case: &Case) -> bool {
+    let s = closed(rt, case.age, case.marks, case.sums, case.pot, case.rates);
+    parts_of(&s) == case.parts && rest_of(&s) == case.rest
 }
 
 #[test]
+fn statements_of_months(rt: HostRuntime) {
+    for case in cases() {
+        assert!(rt; is_closed(&rt, case), "at age {}", case.age);
+    }
+}
+
+// A tariff whose rates differ by that of downloads.
+fn tariff(from: u32, get: u64) -> Tariff {
+    Tariff {
+        from: Month(from),
+        rates: Rates {
+            get,
+            audit: 1,
+            repair: 2,
+            storage: 3,
+        },
+    }
+}
+
+// Months, and the rate of downloads in each.
+static RATES: [(u32, u64); 7] = [
+    (23999, 0),
+    (24000, 10),
+    (24199, 10),
+    (24200, 20),
+    (24299, 20),
+    (24300, 30),
+    (49775, 30),
+];
+
+#[test]
 fn rates_of_months(rt: HostRuntime) {
-    let rates = |get| Rates {
-        get,
-        audit: 1,
-        repair: 2,
-        storage: 3,
-    };
-    let tariffs = [
-        Tariff {
-            from: Month(24000),
-            rates: rates(10),
-        },
-        Tariff {
-            from: Month(24300),
-            rates: rates(30),
-        },
-        Tariff {
-            from: Month(24200),
-            rates: rates(20),
-        },
-    ];
-    for (month, get) in [
-        (23999, 0),
-        (24000, 10),
-        (24199, 10),
-        (24200, 20),
-        (24299, 20),
-        (24300, 30),
-        (49775, 30),
-    ] {
-        assert_eq!(rt; rates_in(&tariffs, Month(month)).get, get, "in {month}");
+    let tariffs = [tariff(24000, 10), tariff(24300, 30), tariff(24200, 20)];
+    for (month, get) in &RATES {
+        assert!(rt; rates_in(&tariffs, Month(*month)).get == *get, "in {month}");
     }
 }

@@ -125,14 +125,36 @@ pub fn pair<R: Threads + Wait + Sync>(
     }
 }
 
-/// Three workers in a chain: one on a pass that was split off, and a pair on the rest. The rest is joined into the pass
-/// that was split off.
-pub fn chain<R: Threads + Wait + Sync>(
+// A pair, or one worker.
+fn pair_or_one<R: Threads + Wait + Sync>(
     rt: &R,
     alloc: Global,
     desk: &Desk<Register>,
     pass: Ticketed,
     calls: u64,
+    is_pair: bool,
+) -> Worked
+    requires desk { pass.desk ≡ desk.now }
+    requires spare { 2 ≤ pass.spare }
+    ensures desk { result.pass.desk ≡ pass.desk }
+    ensures parts { result.pass.parts ≡ pass.parts }
+{
+    if is_pair {
+        pair(rt, alloc, desk, pass, calls)
+    } else {
+        work(rt, alloc, desk, pass, calls)
+    }
+}
+
+/// A pair, and beside it another pair in a tree, or one worker in a chain, on the pass that was split off. In a tree
+/// that pass is joined into the first, and in a chain the first into that one.
+pub fn branch<R: Threads + Wait + Sync>(
+    rt: &R,
+    alloc: Global,
+    desk: &Desk<Register>,
+    pass: Ticketed,
+    calls: u64,
+    is_tree: bool,
 ) -> Worked
     requires desk { pass.desk ≡ desk.now }
     requires spare { 4 ≤ pass.spare }
@@ -147,53 +169,22 @@ pub fn chain<R: Threads + Wait + Sync>(
             ensures { (result.pass.desk ≡ rest.desk) × (result.pass.parts ≡ rest.parts) }
         { pair(rt, alloc, desk, rest, calls) },
         move || -> Worked
-            requires { other.desk ≡ desk.now }
-            ensures { SameRights other result.pass }
-        { work(rt, alloc, desk, other, calls) },
+            requires { IsSync R.row × (other.desk ≡ desk.now) × (2 ≤ other.spare) }
+            ensures { (result.pass.desk ≡ other.desk) × (result.pass.parts ≡ other.parts) }
+        { pair_or_one(rt, alloc, desk, other, calls, is_tree) },
     );
     let Worked { pass, sheet } = first;
     let Worked {
         pass: other,
         sheet: more,
     } = second;
+    let pass = if is_tree {
+        desk.join(pass, other)
+    } else {
+        desk.join(other, pass)
+    };
     Worked {
-        pass: desk.join(other, pass),
-        sheet: sheet.and(more),
-    }
-}
-
-/// Four workers in a tree of two pairs.
-pub fn tree<R: Threads + Wait + Sync>(
-    rt: &R,
-    alloc: Global,
-    desk: &Desk<Register>,
-    pass: Ticketed,
-    calls: u64,
-) -> Worked
-    requires desk { pass.desk ≡ desk.now }
-    requires spare { 4 ≤ pass.spare }
-    ensures desk { result.pass.desk ≡ pass.desk }
-    ensures parts { result.pass.parts ≡ pass.parts }
-{
-    let (left, right) = desk.split(pass);
-    let (first, second) = join(
-        rt,
-        move || -> Worked
-            requires { IsSync R.row × (left.desk ≡ desk.now) × (2 ≤ left.spare) }
-            ensures { (result.pass.desk ≡ left.desk) × (result.pass.parts ≡ left.parts) }
-        { pair(rt, alloc, desk, left, calls) },
-        move || -> Worked
-            requires { IsSync R.row × (right.desk ≡ desk.now) × (2 ≤ right.spare) }
-            ensures { (result.pass.desk ≡ right.desk) × (result.pass.parts ≡ right.parts) }
-        { pair(rt, alloc, desk, right, calls) },
-    );
-    let Worked { pass, sheet } = first;
-    let Worked {
-        pass: other,
-        sheet: more,
-    } = second;
-    Worked {
-        pass: desk.join(pass, other),
+        pass,
         sheet: sheet.and(more),
     }
 }

@@ -18,6 +18,10 @@ pair_apart {f = f} {g = g} a b = record {
       (ap (λ l. (l, x.1)) front.0 ∙ ap (λ l. (y.0, l)) back.0, back.1);
 }
 
+-- four fields before the rest
+pub four_first : (a b c d rest : List ℕ) → a ++ (b ++ (c ++ (d ++ rest))) ≡ (a ++ (b ++ (c ++ d))) ++ rest
+four_first a b c d rest = rw (append_assoc, append_assoc, append_assoc) refl
+
 -- of what is made of parts, one way
 pub made_apart : {A P : Type 0} {f : P → List ℕ} {F : P → Type 0} (parts : A → P) (G : A → Type 0)
     → AreApart f F → ((x : A) → G x → F (parts x)) → ((x y : A) → parts x ≡ parts y → x ≡ y) → AreApart (λ x. f (parts x)) G

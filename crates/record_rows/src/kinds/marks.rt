@@ -1,8 +1,10 @@
 // Kind 2: how far a store has come.
-ghost use Rattle.std.specs.Prelude.{◌≡◌, refl};
-ghost use Rattle.std.proofs.Common.{rules};
+ghost use Rattle.std.specs.Prelude.{◌≡◌, [], refl};
+ghost use Rattle.std.proofs.Common.{ap, rules};
 ghost use Rattle.sat_base.specs.declared.kinds.TheConstants as kinds;
 ghost use Rattle.record_rows.specs.declared.records.Rec.TheVariants as rec;
+ghost use Rattle.record_rows.specs.Numbers.{be64};
+ghost use Rattle.record_rows.specs.Laws.Apart.{four_first};
 ghost use Rattle.record_rows.specs.Laws.Kinds.{the_marks};
 
 use crate::coded::Spelled;
@@ -10,7 +12,10 @@ use crate::kind::Kind;
 use crate::records::Rec;
 use sat_base::{Hour, Marks, Moment, Month, NoMemory, kinds};
 
-type Body = (Moment, (u64, (u64, (u64, (Month, Hour)))));
+// How far time and the numbers have come.
+type Numbers = (Moment, (u64, (u64, u64)));
+
+type Body = (Numbers, (Month, Hour));
 
 impl Kind for Marks {
     type Id = ();
@@ -23,7 +28,7 @@ impl Kind for Marks {
 
     ghost rec = { rec.Marks };
 
-    ghost made = { λ _ (time, (segment, (serial, (plan, (month, hour))))).
+    ghost made = { λ _ ((time, (segment, (serial, plan))), (month, hour)).
         rec.Marks (record {
           time = time;
           segment = segment;
@@ -43,7 +48,8 @@ impl Kind for Marks {
     }
 
     fn of(_id: (), body: Body) -> Rec {
-        let (time, (segment, (serial, (plan, (month, hour))))) = body;
+        let (numbers, (month, hour)) = body;
+        let (time, (segment, (serial, plan))) = numbers;
         Rec::Marks(Marks {
             time,
             segment,
@@ -57,11 +63,11 @@ impl Kind for Marks {
     ghost kind = { λ marks. refl };
 
     ghost parts = { record {
-      row = λ id body. refl;
+      row = λ id ((time, (segment, (serial, plan))), _). ap (λ bytes. record { kind = kinds.MARKS; id = []; body = bytes }) (four_first (be64 time) (be64 segment) (be64 serial) (be64 plan) _);
       ranked = λ id body. refl;
       parted = λ id body fits. Prim.search rules;
       joined = λ id body id_fits body_fits. Prim.search rules;
       whole = λ rec is. let found = the_marks rec is in let x = found.0 in
-          (tt, (x.time, (x.segment, (x.serial, (x.plan, (x.month, x.hour))))), found.1);
+          (tt, ((x.time, (x.segment, (x.serial, x.plan))), (x.month, x.hour)), found.1);
     } };
 }

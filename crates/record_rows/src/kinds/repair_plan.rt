@@ -1,9 +1,12 @@
 // Kind 11: the open plan of a repair.
 ghost use Rattle.std.specs.Prelude.{◌≡◌, ◌≤◌, ◌++◌, length, refl};
+ghost use Rattle.std.proofs.Common.{sym};
 ghost use Rattle.sat_base.specs.declared.kinds.TheConstants as kinds;
 ghost use Rattle.record_rows.specs.declared.records.Rec.TheVariants as rec;
 ghost use Rattle.record_rows.specs.Plans.{repair_plan_body};
 ghost use Rattle.record_rows.specs.Fits.{RepairPlanFits, IsRepairShort};
+ghost use Rattle.record_rows.specs.Numbers.{be64};
+ghost use Rattle.record_rows.specs.Laws.Apart.{four_first};
 ghost use Rattle.record_rows.specs.Laws.Kinds.{the_repair_plan};
 ghost use Rattle.record_rows.specs.Laws.Records.{repair_plan_apart, some_repair_plan};
 
@@ -16,19 +19,26 @@ use repair_core::RepairPlan;
 use sat_base::{Moment, NoMemory, SegId, Serial, kinds};
 use std::alloc::Global;
 
-type Fields = (
-    u64,
-    (SegId, (u64, (Serial, (Moment, (u64, (Places, Places)))))),
-);
+// What is rebuilt.
+type Target = (u64, (SegId, (u64, Serial)));
+
+// Since when, how long it is, and from where it goes where.
+type Moves = (Moment, (u64, (Places, Places)));
+
+type Fields = (Target, Moves);
 
 impl Made for RepairPlan {
     type Fields = Fields;
 
     ghost fields = { λ p.
-        (p.plan, (p.segment, (p.version, (p.serial, (p.issued, (p.len, (p.sources, p.targets))))))) };
+        ((p.plan, (p.segment, (p.version, p.serial))), (p.issued, (p.len, (p.sources, p.targets)))) };
+
+    ghost bytes_of = { repair_plan_body };
 
     fn of(given: Fields) -> Option<Self> {
-        let (plan, (segment, (version, (serial, (issued, (len, (sources, targets))))))) = given;
+        let (target, moves) = given;
+        let (plan, (segment, (version, serial))) = target;
+        let (issued, (len, (sources, targets))) = moves;
         Some(RepairPlan {
             plan,
             segment,
@@ -40,6 +50,8 @@ impl Made for RepairPlan {
             targets: targets.into_items(),
         })
     }
+
+    ghost spelled = { λ p. sym (four_first (be64 p.plan) (be64 p.segment.0) (be64 p.version) (be64 p.serial.0) _) };
 }
 
 impl Spelled for RepairPlan {

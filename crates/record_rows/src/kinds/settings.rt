@@ -1,10 +1,13 @@
 // Kind 1: what a store is set up with.
 ghost use Rattle.std.specs.Prelude.{◌≡◌, ◌↔◌, ◌≤◌, ◌++◌, length, IsTrue, refl};
+ghost use Rattle.std.proofs.Common.{sym};
 ghost use Rattle.sat_base.specs.declared.kinds.TheConstants as kinds;
 ghost use Rattle.sat_base.specs.declared.limits.TheConstants as limits;
 ghost use Rattle.record_rows.specs.declared.records.Rec.TheVariants as rec;
-ghost use Rattle.record_rows.specs.Settings.{settings_body};
+ghost use Rattle.record_rows.specs.Settings.{scheme_bytes, settings_body};
 ghost use Rattle.record_rows.specs.Fits.{SettingsFit, IsVetting};
+ghost use Rattle.record_rows.specs.Numbers.{be8, be16};
+ghost use Rattle.record_rows.specs.Laws.Apart.{four_first};
 ghost use Rattle.record_rows.specs.Laws.Kinds.{the_settings};
 ghost use Rattle.record_rows.specs.Laws.Records.{settings_apart, some_settings};
 
@@ -21,7 +24,10 @@ const VERSION: u8 = 2;
 /// The greatest percent of places for fresh nodes.
 const PERCENT: u8 = 100;
 
-type Fields = (u8, ([u8; 32], (Scheme, (u16, (u8, (Caps, Month))))));
+// The version, the secret, the scheme, and from how many audits on a node is vetted.
+type Front = (u8, ([u8; 32], (Scheme, u16)));
+
+type Fields = (Front, (u8, (Caps, Month)));
 
 /// Whether nodes may be vetted so, and so many percent of places go to fresh ones.
 pub(crate) fn is_vetting(vet: u16, fresh: u8) -> bool
@@ -33,12 +39,15 @@ pub(crate) fn is_vetting(vet: u16, fresh: u8) -> bool
 impl Made for Settings {
     type Fields = Fields;
 
-    ghost fields = { λ s. (2, (s.secret, (s.scheme, (s.vet, (s.fresh, (s.caps, s.first_month)))))) };
+    ghost fields = { λ s. ((2, (s.secret, (s.scheme, s.vet))), (s.fresh, (s.caps, s.first_month))) };
+
+    ghost bytes_of = { settings_body };
 
     ghost allows = { λ s. IsVetting s.vet s.fresh };
 
     fn of(given: Fields) -> Option<Self> {
-        let (version, (secret, (scheme, (vet, (fresh, (caps, first_month)))))) = given;
+        let (front, (fresh, (caps, first_month))) = given;
+        let (version, (secret, (scheme, vet))) = front;
         if version != VERSION || !is_vetting(vet, fresh) {
             return None;
         }
@@ -51,6 +60,9 @@ impl Made for Settings {
             first_month,
         })
     }
+
+    ghost spelled = { λ s.
+        sym (four_first (be8 2) s.secret (scheme_bytes s.scheme.k s.scheme.m s.scheme.o s.scheme.n s.scheme.share) (be16 s.vet) _) };
 }
 
 impl Spelled for Settings {
