@@ -11,3 +11,4 @@ pub mod PaidBounds
 pub mod PaidLemmas
 pub mod PlacedLemmas
 pub mod KeptLemmas
+pub mod FreedLemmas

@@ -1,4 +1,5 @@
 pub mod Store
+pub mod Freed
 pub mod Prepared
 pub mod Plans
 pub mod Opening

@@ -1,15 +1,21 @@
 // What pay goes by, as segments, orders, tallies and statements change. The laws of `pay_tables` that are called do
 // nothing: their contracts tell why the other calls may be made.
-ghost use Rattle.std.specs.Prelude.{◌≡◌, true, List, OnOk};
-ghost use Rattle.rows.specs.Rows.{without};
+ghost use Rattle.std.specs.Prelude.{◌≡◌, ◌*◌, ◌^◌, ◌<◌, true, List, OnOk};
+ghost use Rattle.rows.specs.Rows.{Each, without};
 ghost use Rattle.rows.specs.Slots.{with_row};
 ghost use Rattle.segment_core.specs.Record.{segment_rank};
+ghost use Rattle.segment_index.specs.Indexed.{IsReleased, HasNoMoreRoom};
 ghost use Rattle.settlement.specs.declared.row.SettledRow.{SettledRow};
+ghost use Rattle.tally_payout.specs.Ranks.{month_place, tally_rank};
+ghost use Rattle.month_pay.specs.Months.{month_of_hour};
+ghost use Rattle.month_sums.specs.Open.{open_rank};
 ghost use Rattle.machine_calls.specs.declared.change.RecChange.{RecChange};
 ghost use Rattle.machine_step.specs.Bounds.{IsSetupWithin};
 ghost use Rattle.machine_step.specs.Tables.{removed, changed, setup_of};
+ghost use Rattle.pay_tables.specs.Amounts.{balance_rank};
 ghost use Rattle.pay_tables.specs.InStep.{IsInStep, IsShort};
-ghost use Rattle.pay_tables.specs.Placed.{ArePiecesPlaced, KeepsPlaces, KeepsRows};
+ghost use Rattle.pay_tables.specs.Placed.{ArePiecesPlaced, IsFreed, HasNoMoreSlots, KeepsPlaces, KeepsRows};
+ghost use Rattle.machine_store.specs.Freed.{IsTight, IsPaidFreed, HasNoMoreRooms};
 ghost use Rattle.machine_store.specs.Store.{tables_of, KeepsStep, GoesByTables, IsPlaceable, IsPlaced, spares};
 
 use crate::steps::{place_row, put_row};
@@ -198,9 +204,25 @@ pub(crate) fn put_statement(store: &mut Store, statement: Statement)
     store.pay.put_statement(statement);
 }
 
+// Gives back the room of a segment in the index, and that for the bytes of its pieces.
+fn release_segment(segments: &mut SegmentIndex, pay: &mut PayTables, segment: &Segment)
+    ensures index { segments.new ≡ record segments.old { room = segments.new.room } }
+    ensures rows { KeepsRows pay.old pay.new }
+    ensures released { IsReleased segments.new segment.now }
+    ensures bytes { Each (λ piece. IsTight balance_rank pay.new.stored piece.node.0) segment.now.pieces }
+    ensures room { HasNoMoreRoom segments.old.room segments.new.room }
+    ensures slots { HasNoMoreSlots pay.old pay.new }
+{
+    segments.release(segment);
+    pay.release_pieces(segment.pieces.as_slice());
+}
+
 // Gives back the room of a tally. None was made for one past the last moment.
 fn release_tally(pay: &mut PayTables, tally: &Tally)
-    ensures { KeepsRows pay.old pay.new }
+    ensures rows { KeepsRows pay.old pay.new }
+    ensures fewer { HasNoMoreSlots pay.old pay.new }
+    ensures row { tally.now.hour.0 * 3600 < 2 ^ 36 → IsFreed tally_rank pay.old.tallies pay.new.tallies (tally_rank tally.now) }
+    ensures sum { tally.now.hour.0 * 3600 < 2 ^ 36 → IsFreed open_rank pay.old.sums pay.new.sums (month_place (month_of_hour tally.now.hour.0) tally.now.node.0) }
 {
     if tally.hour.0 <= LAST_HOUR {
         pay.release_tally(tally);
@@ -211,16 +233,31 @@ fn release_tally(pay: &mut PayTables, tally: &Tally)
 pub(crate) fn release_paid(store: &mut Store, change: &RecChange)
     ensures tables { tables_of store.new ≡ tables_of store.old }
     ensures own { GoesByTables store.old → GoesByTables store.new }
+    ensures index { store.new.segments ≡ record store.old.segments { room = store.new.segments.room } }
+    ensures rows { KeepsRows store.old.pay store.new.pay }
+    ensures freed { IsPaidFreed store.new change.now }
+    ensures fewer { HasNoMoreRooms store.old store.new }
 {
     rows_that_stay_stay_in_step();
     match change {
         RecChange::Segment(segment) => {
-            store.segments.release(segment);
-            store.pay.release_pieces(segment.pieces.as_slice());
+            release_segment(&mut store.segments, &mut store.pay, segment)
         }
         RecChange::SettledRow(row) => store.pay.release_order(row),
         RecChange::Tally(tally) => release_tally(&mut store.pay, tally),
         RecChange::Statement(statement) => store.pay.release_statement(statement),
-        _ => {}
+        RecChange::Settings(_)
+        | RecChange::Marks(_)
+        | RecChange::Node(_)
+        | RecChange::Customer(_)
+        | RecChange::AuditPlan(_)
+        | RecChange::RecheckPlan(_)
+        | RecChange::RepairPlan(_)
+        | RecChange::Containment(_)
+        | RecChange::Kept(_)
+        | RecChange::ExitPlan(_)
+        | RecChange::Left(_)
+        | RecChange::Tariff(_)
+        | RecChange::Remove(_) => {}
     }
 }

@@ -1,5 +1,6 @@
 // Room for what a step changes, and the step itself.
 ghost use Rattle.std.specs.Prelude.{◌≡◌, ◌≤◌, ◌+◌, [], true, length, OnOk};
+ghost use Rattle.rows.specs.Rows.{Each};
 ghost use Rattle.rows.specs.Slots.{with_row};
 ghost use Rattle.node_registry.specs.Registry.{node_rank};
 ghost use Rattle.settlement.specs.Rows.{key};
@@ -7,6 +8,8 @@ ghost use Rattle.machine_calls.specs.declared.change.RecChange.{RecChange};
 ghost use Rattle.machine_step.specs.Outcome.{Outcome};
 ghost use Rattle.machine_step.specs.Step.{is_stopping, tables_after};
 ghost use Rattle.machine_step.specs.Tables.{removed, changed, all_changed};
+ghost use Rattle.pay_tables.specs.Placed.{HasNoMore, KeepsRows};
+ghost use Rattle.machine_store.specs.Freed.{IsTight, HasNoRoom, HasNoMoreRooms};
 ghost use Rattle.machine_store.specs.Prepared.{Holds};
 ghost use Rattle.machine_store.specs.Store.{tables_of, GoesByTables, IsNodePlaceable, IsRowPlaceable, IsPlaceable, ArePlaceable, IsNodePlaced, IsRowPlaced, IsPlaced, HasRoom, spares, are_orderly};
 ghost use Rattle.node_registry.specs.declared.node.Node.{Node};
@@ -20,7 +23,7 @@ use crate::prepared::Prepared;
 use crate::store::Store;
 use machine_calls::{RecChange, Reply};
 use node_registry::{Node, NodeTable};
-use rows::Ranked;
+use rows::{Ranked, SlottedRows};
 use sat_base::{Key, NoMemory};
 use settlement::{Settled, SettledRow};
 
@@ -112,19 +115,43 @@ fn place(store: &mut Store, change: &RecChange) -> Result<(), NoMemory>
     }
 }
 
+// Gives back the room for a row in one table, where there is no row of its rank.
+fn release_row<R: Ranked>(table: &mut SlottedRows<R>, rank: u128)
+    ensures rows { table.new.rows ≡ table.old.rows }
+    ensures freed { IsTight R.rank table.new rank }
+    ensures fewer { HasNoMore table.old table.new }
+{
+    table.release(rank);
+}
+
 // Gives back the room for a record, where there is no such record. Room for nodes, and for the rows of settled orders,
 // has no rank, and serves the next one; no room is made for the others.
 fn release(store: &mut Store, change: &RecChange)
     ensures tables { tables_of store.new ≡ tables_of store.old }
     ensures own { GoesByTables store.old → GoesByTables store.new }
+    ensures index { store.new.segments ≡ record store.old.segments { room = store.new.segments.room } }
+    ensures rows { KeepsRows store.old.pay store.new.pay }
+    ensures freed { HasNoRoom store.new change.now }
+    ensures fewer { HasNoMoreRooms store.old store.new }
 {
     match change {
-        RecChange::Customer(customer) => store.customers.release(customer.rank()),
-        RecChange::Containment(row) => store.containments.release(row.rank()),
-        RecChange::Kept(kept) => store.kept.release(kept.rank()),
-        RecChange::Left(left) => store.left.release(left.rank()),
-        RecChange::Tariff(tariff) => store.tariffs.release(tariff.rank()),
-        _ => release_paid(store, change),
+        RecChange::Customer(customer) => release_row(&mut store.customers, customer.rank()),
+        RecChange::Containment(row) => release_row(&mut store.containments, row.rank()),
+        RecChange::Kept(kept) => release_row(&mut store.kept, kept.rank()),
+        RecChange::Left(left) => release_row(&mut store.left, left.rank()),
+        RecChange::Tariff(tariff) => release_row(&mut store.tariffs, tariff.rank()),
+        RecChange::Segment(_)
+        | RecChange::SettledRow(_)
+        | RecChange::Tally(_)
+        | RecChange::Statement(_) => release_paid(store, change),
+        RecChange::Settings(_)
+        | RecChange::Marks(_)
+        | RecChange::Node(_)
+        | RecChange::AuditPlan(_)
+        | RecChange::RecheckPlan(_)
+        | RecChange::RepairPlan(_)
+        | RecChange::ExitPlan(_)
+        | RecChange::Remove(_) => {}
     }
 }
 
@@ -208,10 +235,11 @@ pub fn place_all(store: &mut Store, changes: &[RecChange]) -> Result<(), NoMemor
     Ok(())
 }
 
-// Gives room back.
+// Gives the room back that was made for changes: none stands for a record that isn't there.
 pub fn release_all(store: &mut Store, changes: &[RecChange])
     ensures tables { tables_of store.new ≡ tables_of store.old }
     ensures own { GoesByTables store.old → GoesByTables store.new }
+    ensures freed { Each (HasNoRoom store.new) changes.now }
 {
     for change in changes {
         release(store, change);

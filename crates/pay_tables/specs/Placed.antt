@@ -53,6 +53,17 @@ ArePiecesPlaced p pieces = Each (λ piece. has_slot p.stored piece.node.0 ≡ tr
 abbrev pub IsFreed : {R : Type 0} → (R → ℕ) → Slots R → Slots R → ℕ → Type 0
 IsFreed rank old new k = row_at rank old.rows k ≡ None → has_slot new k ≡ false
 
+-- no slot that wasn't there
+abbrev pub HasNoMore : {R : Type 0} → Slots R → Slots R → Type 0
+HasNoMore old new = (k : ℕ) → has_slot old k ≡ false → has_slot new k ≡ false
+
+pub record HasNoMoreSlots (old new : PayTables) : Type 0 where
+  pub tallies : HasNoMore old.tallies new.tallies
+  pub statements : HasNoMore old.statements new.statements
+  pub sums : HasNoMore old.sums new.sums
+  pub stored : HasNoMore old.stored new.stored
+  pub pots : HasNoMore old.pots new.pots
+
 -- ---- what a change leaves as it is
 
 -- all rows

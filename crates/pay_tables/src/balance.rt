@@ -5,7 +5,7 @@ ghost use Rattle.rows.specs.Rows.{Each, row_at};
 ghost use Rattle.rows.specs.Slots.{no_rows, has_slot, with_row};
 ghost use Rattle.machine_step.specs.Calls.PlanExit.{lies_on};
 ghost use Rattle.pay_tables.specs.Amounts.{balance_rank, amount_at, bytes_at};
-ghost use Rattle.pay_tables.specs.Placed.{IsFreed};
+ghost use Rattle.pay_tables.specs.Placed.{IsFreed, HasNoMore};
 
 use rows::{Ranked, SlottedRows};
 use sat_base::{At, NoMemory, NodeId};
@@ -92,6 +92,7 @@ impl Balances {
     pub fn release_all(&mut self, pieces: &[At])
         ensures rows { self.new.rows ≡ self.old.rows }
         ensures freed { Each (λ piece. IsFreed balance_rank self.old self.new piece.node.0) pieces.now }
+        ensures fewer { HasNoMore self.old self.new }
     {
         for piece in pieces {
             self.release(piece.node);

@@ -5,7 +5,7 @@ ghost use Rattle.tally_payout.specs.Ranks.{month_place, tally_rank, statement_ra
 ghost use Rattle.month_pay.specs.Months.{month_at, month_of_hour};
 ghost use Rattle.month_sums.specs.Open.{open_rank};
 ghost use Rattle.pay_tables.specs.Amounts.{balance_rank};
-ghost use Rattle.pay_tables.specs.Placed.{IsOrderPlaceable, IsOrderPlaced, IsTallyPlaceable, IsTallyPlaced, IsStatementPlaceable, IsStatementPlaced, ArePiecesPlaced, IsFreed, KeepsRows, KeepsPlaces};
+ghost use Rattle.pay_tables.specs.Placed.{IsOrderPlaceable, IsOrderPlaced, IsTallyPlaceable, IsTallyPlaced, IsStatementPlaceable, IsStatementPlaced, ArePiecesPlaced, IsFreed, HasNoMoreSlots, KeepsRows, KeepsPlaces};
 
 use crate::tables::PayTables;
 use month_sums::{month_at, place_of};
@@ -71,6 +71,7 @@ impl PayTables {
     /// Gives the room of an order back, where it wasn't put.
     pub fn release_order(&mut self, row: &SettledRow)
         ensures rows { KeepsRows self.old self.new }
+        ensures fewer { HasNoMoreSlots self.old self.new }
         ensures sum { IsFreed open_rank self.old.sums self.new.sums (month_place (month_at row.now.at) row.now.node.0) }
     {
         self.sums
@@ -81,6 +82,7 @@ impl PayTables {
     pub fn release_tally(&mut self, tally: &Tally)
         requires { tally.now.hour.0 * 3600 < 2 ^ 36 }
         ensures rows { KeepsRows self.old self.new }
+        ensures fewer { HasNoMoreSlots self.old self.new }
         ensures row { IsFreed tally_rank self.old.tallies self.new.tallies (tally_rank tally.now) }
         ensures sum { IsFreed open_rank self.old.sums self.new.sums (month_place (month_of_hour tally.now.hour.0) tally.now.node.0) }
     {
@@ -92,6 +94,7 @@ impl PayTables {
     /// Gives the room of a statement back, where it wasn't put.
     pub fn release_statement(&mut self, statement: &Statement)
         ensures rows { KeepsRows self.old self.new }
+        ensures fewer { HasNoMoreSlots self.old self.new }
         ensures row { IsFreed statement_rank self.old.statements self.new.statements (statement_rank statement.now) }
         ensures pot { IsFreed balance_rank self.old.pots self.new.pots statement.now.node.0 }
     {
@@ -102,6 +105,7 @@ impl PayTables {
     /// Gives the room of these pieces back, where their nodes have no row.
     pub fn release_pieces(&mut self, pieces: &[At])
         ensures rows { KeepsRows self.old self.new }
+        ensures fewer { HasNoMoreSlots self.old self.new }
         ensures freed { Each (λ piece. IsFreed balance_rank self.old.stored self.new.stored piece.node.0) pieces.now }
     {
         self.stored.release_all(pieces);

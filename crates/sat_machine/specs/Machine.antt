@@ -1,4 +1,4 @@
--- What contracts see of the machine: its tables, and the call whose step is prepared.
+-- What contracts see of the machine: its tables, the call whose step is prepared, and the room in the tables.
 use Rattle.std.specs.Prelude.{Option, IfSome}
 use Rattle.std.specs.Option.{option_map}
 use Rattle.std.specs.declared.snapshot.Snapshot.{Snapshot}
@@ -12,6 +12,8 @@ use Rattle.machine_store.specs.Store.{tables_of, GoesByTables, HasRoom}
 pub record Machine : Type 0 where
   pub tables : Tables
   pub pending : Option Call
+  -- the tables as they are kept, with the room that is made in them
+  pub store : Store
 
 abbrev pub call_of : Option (Snapshot Call) → Option Call
 call_of pending = option_map (λ snapshot. snapshot.value) pending

@@ -4,6 +4,8 @@ ghost use Rattle.tally_payout.specs.Sheet.{IsPrintable};
 ghost use Rattle.machine_step.specs.Bounds.{IsValid};
 ghost use Rattle.machine_step.specs.Step.{case_of, step, after, IsWellFormed};
 ghost use Rattle.machine_step.specs.Tables.{setup_of};
+ghost use Rattle.rows.specs.Rows.{Each};
+ghost use Rattle.machine_store.specs.Freed.{HasNoRoom};
 ghost use Rattle.machine_store.specs.Opening.{AreParts, Tests, first_broken_of, AreTablesOf};
 ghost use Rattle.machine_store.specs.Prepared.{Holds};
 ghost use Rattle.machine_store.specs.Store.{tables_of, GoesByTables};
@@ -39,7 +41,7 @@ impl Model for Core {
     ghost use Rattle.sat_machine.specs.Machine.{IsReady, call_of};
     ghost use Rattle.machine_store.specs.Store.{tables_of};
 
-    ghost view = { λ m. record { tables = tables_of m.store; pending = call_of m.pending } };
+    ghost view = { λ m. record { tables = tables_of m.store; pending = call_of m.pending; store = m.store } };
 
     ghost invariant = { λ m. IsReady m.store (call_of m.pending) };
 }
@@ -149,10 +151,12 @@ impl Core {
         reply
     }
 
-    /// Gives the step up, and leaves the tables as they were.
+    /// Gives the step up, and leaves the tables as they were. The room that was made for it is gone, but for that of nodes
+    /// and of settled rows, which has no rank and serves the next ones.
     pub fn forget(&mut self, prepared: Prepared)
         requires { IsSomeAnd self.old.pending (λ call. Holds prepared (step self.old.tables call)) }
         ensures tables { self.new.tables ≡ self.old.tables }
+        ensures freed { Each (HasNoRoom self.new.store) prepared.changes.items }
         ensures pending { self.new.pending ≡ None }
     {
         release_all(&mut self.store, &prepared.changes);

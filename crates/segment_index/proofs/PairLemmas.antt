@@ -1,10 +1,10 @@
 -- What a look-up, a pair more and a pair less do to the pairs.
-use Rattle.std.proofs.Common.{◌≡◌, ℕ, ◌^◌, ◌<◌, ◌≤◌, Bool, true, false, not, ◌&&◌, ◌||◌, List, [], ◌∷◌, Option, Some, None, is_some, ◌⊎◌, inl, inr, Bor, option_copied, refl, arith}
+use Rattle.std.proofs.Common.{◌≡◌, ℕ, ◌^◌, ◌<◌, ◌≤◌, Bool, true, false, not, ◌&&◌, ◌||◌, List, [], ◌∷◌, Option, Some, None, is_some, IsSome, ◌⊎◌, inl, inr, Bor, option_copied, refl, sym, ap, subst, ◌∙◌, arith}
 use Rattle.std.specs.Prelude.{◌==◌, slice_get}
 use Rattle.std.proofs.lemmas.Bool.Decides.{nat_tests}
 use Rattle.rows.specs.Rows.{row_at, first_above, without, AllAbove, IsRising}
 use Rattle.std.specs.List.{list_any}
-use Rattle.rows.specs.Slots.{with_row, without_slot}
+use Rattle.rows.specs.Slots.{Slots, has_slot, with_row, without_slot, released}
 use Rattle.segment_index.specs.declared.pairs.Pair.{Pair}
 use Rattle.segment_index.specs.Pairs.{pair_rank, is_same, has, AreWithin, IsNoLater, IsFirst, IsNext}
 
@@ -160,6 +160,15 @@ module _ (rows : List Pair) (high bound : ℕ) (rising : IsRising pair_rank rows
 -- ---- slots
 
 -- what is not there is not there after a slot less
-pub fewer_slots : (slots : List ℕ) (k j : ℕ) → list_any (λ slot. slot == j) slots ≡ false → list_any (λ slot. slot == j) (without_slot slots k) ≡ false
+fewer_slots : (slots : List ℕ) (k j : ℕ) → list_any (λ slot. slot == j) slots ≡ false → list_any (λ slot. slot == j) (without_slot slots k) ≡ false
 fewer_slots [] k j none = refl
 fewer_slots (slot ∷ rest) k j none = grind (arith, nat_tests, none, fewer_slots rest k j)
+
+-- a release makes no slot
+pub no_slot_more : {R : Type 0} (rank : R → ℕ) (old new : Slots R) (at : ℕ) → (row_at rank old.rows at ≡ None → new ≡ released old at) → (IsSome (row_at rank old.rows at) → new ≡ old)
+    → (k : ℕ) → has_slot old k ≡ false → has_slot new k ≡ false
+no_slot_more {R} rank old new at freed kept k none = go (row_at rank old.rows at) refl
+  where
+    go : (found : Option R) → row_at rank old.rows at ≡ found → has_slot new k ≡ false
+    go None is = ap (λ (t : Slots R). has_slot t k) (freed is) ∙ fewer_slots old.slots at k none
+    go (Some row) is = ap (λ (t : Slots R). has_slot t k) (kept (subst (λ (o : Option R). IsSome o) (sym is) refl)) ∙ none

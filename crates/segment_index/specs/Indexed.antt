@@ -50,3 +50,9 @@ pub record IsReleased (t : Indexed) (segment : SegmentRecord) : Type 0 where
   pub need : (healthy : ℕ) → is_key (repair_key t.limits t.gone (Some segment)) healthy ≡ true
       → is_key (repair_key t.limits t.gone (segment_at t.rows segment.id.0)) healthy ≡ false
       → has_room t.room.by_need (pair_rank (record { high = healthy; low = segment.id.0 })) ≡ false
+
+-- no room that wasn't there
+pub record HasNoMoreRoom (old new : Room) : Type 0 where
+  pub segments : (id : ℕ) → has_room old.segments id ≡ false → has_room new.segments id ≡ false
+  pub by_node : (rank : ℕ) → has_room old.by_node rank ≡ false → has_room new.by_node rank ≡ false
+  pub by_need : (rank : ℕ) → has_room old.by_need rank ≡ false → has_room new.by_need rank ≡ false

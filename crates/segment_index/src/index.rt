@@ -2,7 +2,7 @@ ghost use Rattle.std.specs.Prelude.{◌≡◌, true, false, [], length, option_c
 ghost use Rattle.rows.specs.Rows.{without, IsRising};
 ghost use Rattle.rows.specs.Slots.{with_row};
 ghost use Rattle.segment_core.specs.Record.{SegmentRecord, segment_rank};
-ghost use Rattle.segment_index.specs.Indexed.{IsPlaced, IsReleased};
+ghost use Rattle.segment_index.specs.Indexed.{IsPlaced, IsReleased, HasNoMoreRoom};
 ghost use Rattle.segment_index.specs.Segments.{segment_at, is_live};
 
 use crate::health::{GoneNode, Limits, live_pieces, repair_key};
@@ -183,6 +183,7 @@ impl SegmentIndex {
     pub fn release(&mut self, segment: &Segment)
         ensures same { self.new ≡ record self.old { room = self.new.room } }
         ensures released { IsReleased self.new segment.now }
+        ensures fewer { HasNoMoreRoom self.old.room self.new.room }
         ensures others { (other : SegmentRecord) → (other.id.0 ≡ segment.now.id.0 → ⊥) → IsPlaced self.old other → IsPlaced self.new other }
         ensures lost { self.new.room.lost ≡ self.old.room.lost }
     {

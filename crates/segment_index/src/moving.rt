@@ -136,6 +136,7 @@ pub(crate) fn release_pieces(by_node: &mut PairSet, id: u64, pieces: &[At])
         → has_room by_node.new.slots (pair_rank (record { high = node; low = other })) ≡ true }
     ensures gone { (node : ℕ) → has_piece node pieces.now ≡ true → has by_node.old.rows (record { high = node; low = id }) ≡ false
         → has_room by_node.new.slots (pair_rank (record { high = node; low = id })) ≡ false }
+    ensures fewer { (rank : ℕ) → has_room by_node.old.slots rank ≡ false → has_room by_node.new.slots rank ≡ false }
 {
     for piece in pieces {
         by_node.release(pair_at(piece.node, id));

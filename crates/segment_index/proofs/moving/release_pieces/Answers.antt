@@ -32,4 +32,5 @@ loop-piece-preserved c =
                 subst (λ (p : Pair). has_room c.release.new.self.slots (pair_rank p) ≡ false) pair
                 (c.release.ensures.gone (subst (λ (p : Pair). has c.loop-piece.by_node.rows p ≡ false) (sym pair) absent))
           ];
+      fewer = λ rank none. c.release.ensures.fewer rank (c.loop-piece.invariant.fewer rank none);
     }

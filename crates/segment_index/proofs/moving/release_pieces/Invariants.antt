@@ -12,4 +12,5 @@ invariant-loop-piece l = record {
       → has_room l.by_node.slots (pair_rank (record { high = node; low = other })) ≡ true;
   gone : (node : ℕ) → has_piece node (take l.piece-index l.pieces) ≡ true → has l.fn.by_node.rows (record { high = node; low = l.id }) ≡ false
       → has_room l.by_node.slots (pair_rank (record { high = node; low = l.id })) ≡ false;
+  fewer : (rank : ℕ) → has_room l.fn.by_node.slots rank ≡ false → has_room l.by_node.slots rank ≡ false;
 }
