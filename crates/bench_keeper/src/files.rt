@@ -3,7 +3,8 @@ use crate::made::{puts, row, sum_of};
 use anyhow::{Result, bail};
 use keeper_sqlite::KeeperSqlite;
 use sat_base::{Change, Committed, Keeper, Loaded, Row};
-use sqlite::{Alter, Connection};
+use sqlite::{Alter, Connection, FileStore};
+use sqlite_disk::Disk;
 use std::alloc::Global;
 use std::time::Instant;
 
@@ -42,7 +43,8 @@ pub(crate) fn load<K: Keeper>(alloc: Global, keeper: &mut K) -> Result<Vec<Row>>
 /// A connection that is given back, and what came of the work by it.
 pub(crate) type Done<S, T> = (Connection<S>, Result<T>);
 
-/// What is done with an open file. The prover looks into a file's own type once, in `use_file`, and not for each work.
+/// What is done with an open file. The prover looks into the type of a file of the system once, in `use_file`, and not for each
+/// work.
 pub(crate) trait Work: Drop {
     type Output: Drop;
 
@@ -60,6 +62,20 @@ pub(crate) struct Used<T> {
     pub closed: Result<()>,
 }
 
+// Works over an open file and closes it.
+fn use_open<D: Disk + Drop, W: Work>(
+    rt: &HostRuntime,
+    conn: Connection<FileStore<D>>,
+    work: W,
+) -> Result<Used<W::Output>> {
+    let (conn, value) = work.over(rt, conn)?;
+    let closed = match conn.close() {
+        Ok(()) => Ok(()),
+        Err(error) => Err(error.into()),
+    };
+    Ok(Used { value, closed })
+}
+
 /// Opens a file, prints how long that took where it has a name, works over it and closes it.
 pub(crate) fn use_file<W: Work>(
     rt: &HostRuntime,
@@ -69,15 +85,38 @@ pub(crate) fn use_file<W: Work>(
 ) -> Result<Used<W::Output>> {
     let start = Instant::now(rt)?;
     let conn = Connection::open(rt, path)?;
-    if let Some(what) = opening {
-        report(rt, what, start)?;
+    use_open(
+        rt,
+        conn,
+        Opened {
+            start,
+            opening,
+            work,
+        },
+    )
+}
+
+// Work whose file was just opened.
+#[derive(Drop)]
+struct Opened<'a, W> {
+    start: Instant,
+    opening: Option<&'a str>,
+    work: W,
+}
+
+impl<W: Work> Work for Opened<'_, W> {
+    type Output = W::Output;
+
+    fn over<S: Alter + Drop>(
+        self,
+        rt: &HostRuntime,
+        conn: Connection<S>,
+    ) -> Result<Done<S, W::Output>> {
+        if let Some(what) = self.opening {
+            report(rt, what, self.start)?;
+        }
+        self.work.over(rt, conn)
     }
-    let (conn, value) = work.over(rt, conn)?;
-    let closed = match conn.close() {
-        Ok(()) => Ok(()),
-        Err(error) => Err(error.into()),
-    };
-    Ok(Used { value, closed })
 }
 
 /// What came of the work over a file, which is closed.

@@ -6,7 +6,7 @@
 //! - `time PATH COUNT` makes a file of that many rows and prints in nanoseconds how long commits, the opening and a
 //!   load take.
 //! - `open PATH` prints how long the opening of a file takes, and `load PATH` that and a load.
-//! - `rows PATH` prints the rows of a file, a line each.
+//! - `rows PATH` prints the rows of a file, a line each: the kind, and the id and the body in hex.
 //! - `fill PATH` commits rows until a commit fails, as on a full disk, and prints how many were acknowledged and how
 //!   many it can load then.
 //! - `store PATH COUNT` makes a store of that many settled orders, and `book PATH` prints how long it takes to open its
@@ -24,8 +24,9 @@ mod timing;
 use anyhow::{Result, bail};
 use files::{play, rows_of, write_file};
 use made::sum_of;
-use sat_base::{KeeperMem, Row};
+use sat_base::KeeperMem;
 use std::env;
+use trial_lines::told_row;
 
 fn check(rt: &HostRuntime) -> Result<()> {
     let alloc = rt.alloc();
@@ -41,17 +42,12 @@ fn check(rt: &HostRuntime) -> Result<()> {
     Ok(())
 }
 
-fn print_row(rt: &HostRuntime, row: &Row) -> Result<()> {
-    let kind = row.kind;
-    let id = row.id.as_slice();
-    let body = row.body.as_slice();
-    println!(rt; "{kind} {id:?} {body:?}")?;
-    Ok(())
-}
-
 fn print_rows(rt: &HostRuntime, path: &str) -> Result<()> {
     for row in &rows_of(rt, path)? {
-        print_row(rt, row)?;
+        let Ok(line) = told_row(rt.alloc(), row) else {
+            bail!("out of memory");
+        };
+        println!(rt; "{line}")?;
     }
     Ok(())
 }

@@ -28,8 +28,6 @@ mod sleep_ticks;
 mod system_clock;
 mod tcp_lane;
 mod tcp_link;
-#[cfg(test)]
-mod tests;
 mod time_limit;
 
 pub use console::Console;

@@ -3,6 +3,7 @@
 //! Each case is a line of the output, which says what a device answered. The cases are its stored output, the same at
 //! every run. The ports are those that the system picks, and the program takes some three seconds.
 //!
+//! - `console`: a reader and a writer that are interrupted and fail.
 //! - `connections`: an exchange, clients that close, a taken port, a lane in a thread.
 //! - `endings`: unread bytes, a client that stays, one that resets, time that is up, waits that fail.
 //! - `machine`: words, moments and ticks of the system, and of one that fails when it is told to.
@@ -12,6 +13,7 @@
 
 mod client;
 mod connections;
+mod console;
 mod endings;
 mod machine;
 mod scripted;
@@ -30,5 +32,6 @@ fn main(rt: HostRuntime) -> Result<()> {
     endings::failed_wait(&rt)?;
     machine::words(&rt)?;
     machine::moments(&rt)?;
-    machine::ticks(&rt)
+    machine::ticks(&rt)?;
+    console::faulty(&rt)
 }

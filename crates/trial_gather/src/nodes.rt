@@ -10,20 +10,20 @@ use std::time::{Duration, Instant};
 
 const SHARE: &[u8] = b"HTTP/1.1 200 OK\r\ncontent-length: 2\r\n\r\n\x01\x02";
 
+fn is_share(fetched: &Fetched) -> bool {
+    matches!(fetched, Fetched::Share(bytes) if bytes.as_slice() == [1, 2].as_slice())
+}
+
 // What an answer is, beside `SHARE`.
 fn name_of(fetched: &Fetched) -> &'static str {
     match fetched {
         Fetched::Share(bytes) if bytes.is_empty() => "longer than asked",
-        Fetched::Share(bytes) if bytes.as_slice() == [1, 2].as_slice() => "share",
+        Fetched::Share(_) if is_share(fetched) => "share",
         Fetched::Share(_) => "another share",
         Fetched::Missing => "missing",
         Fetched::NoAnswer => "no answer",
         Fetched::NoMemory => "no memory",
     }
-}
-
-fn is_share(fetched: &Fetched) -> bool {
-    name_of(fetched) == "share"
 }
 
 #[test]
