@@ -294,7 +294,9 @@ def main():
         case ["show", path, month]:
             print(sheet(path, month_in(month)), end="")
         case ["compare", path, month]:
-            compare(month_in(month), sheet(path, month_in(month)), sys.stdin.read())
+            # the program that writes it has the file open until it has ended
+            theirs = sys.stdin.read()
+            compare(month_in(month), sheet(path, month_in(month)), theirs)
             print("sheets: 1 agrees")
         case ["all", path, program]:
             compare_all(path, program)

@@ -1,202 +1,39 @@
-//! Makes the parity pieces of segments, to be timed beside another encoder over the same bytes (`bench/coding`).
+//! Parity pieces made, stripes decoded and pieces rebuilt, to be timed.
 //!
-//! Without words it prints the check sum of each case alone. With the word `time` it also prints the input's bytes,
-//! and in nanoseconds how long its rounds took.
+//! Without words it prints the check sums of all cases. With words, beside check sums and in nanoseconds:
+//!
+//! - `encode`: the parity pieces of segments, beside another encoder over the same bytes (`bench/coding`).
+//! - `decode`: stripes of which some answers are altered, beside the decoding of each column by itself (`bench/decoding`).
+//! - `rebuild NUMBER`: in the case of this number, the pieces of a segment whose pieces have 4 MiB, by windows of 64 stripes,
+//!   under 29 of 110 shares of 256 bytes (`bench/rebuilding`).
 #![tactic(auto)]
 
-ghost use Rattle.std.specs.Prelude.{◌≡◌, ◌*◌, ◌≤◌, ◌^◌, length};
+mod answers;
+mod decoding;
+mod decodings;
+mod encoding;
+mod rebuilding;
 
 use anyhow::{Result, bail};
-use rs_stripe::{Encoder, encode_piece, encode_pieces};
-use sat_base::{Bytes, Scheme};
-use std::alloc::{AllocError, Global};
 use std::env;
-use std::time::{Clock, Instant};
 
-// The cases: the bytes of a share, the stripes of the segment, and the rounds of a turn.
-const CASES: [(u64, u64, u64); 3] = [(256, 1, 200), (256, 256, 2), (1024, 64, 2)];
-
-const TURNS: usize = 5;
-
-// How the parity pieces are made.
-#[derive(Clone, Copy, PartialEq, Eq)]
-enum Way {
-    // Each by itself.
-    Single,
-    // All by one call.
-    Together,
-    // The shares of a lone stripe, by an encoder that was made before.
-    Kept,
-}
-
-// What is encoded.
-#[derive(Drop)]
-struct Work {
-    scheme: Scheme,
-    segment: Vec<u8>,
-    parity: Vec<u8>,
-}
-
-// The bytes that the other encoder uses too.
-fn sample(alloc: Global, len: u64) -> Result<Vec<u8>, AllocError> {
-    let mut bytes = Vec::new(alloc);
-    let mut state = 1u32;
-    for _ in 0..len {
-        state = state.wrapping_mul(1664525).wrapping_add(1013904223);
-        bytes.push((state >> 24) as u8)?;
-    }
-    Ok(bytes)
-}
-
-fn begin(alloc: Global, share: u64, stripes: u64) -> Result<Work> {
-    let Ok(scheme) = Scheme::check(29, 35, 80, 110, share) else {
-        bail!("no scheme");
-    };
-    let len = share.wrapping_mul(stripes).wrapping_mul(29);
-    Ok(Work {
-        scheme,
-        segment: sample(alloc, len)?,
-        parity: (scheme.k..scheme.n).collect(alloc)?,
-    })
-}
-
-// The sum of all bytes.
-fn sum_of(pieces: &[Bytes]) -> u64 {
-    let mut sum = 0u64;
-    for piece in pieces {
-        for byte in piece.as_slice() {
-            sum = sum.wrapping_add(u64::from(*byte));
+fn run(rt: &HostRuntime, words: &[&str]) -> Result<()> {
+    match words {
+        [] => {
+            encoding::run(rt, false)?;
+            decodings::run(rt, false)?;
+            rebuilding::check(rt)
         }
+        ["encode"] => encoding::run(rt, true),
+        ["decode"] => decodings::run(rt, true),
+        ["rebuild", number] => rebuilding::time(rt, number.parse::<usize>()?),
+        _ => bail!("encode, decode, or rebuild NUMBER"),
     }
-    sum
-}
-
-fn single(alloc: Global, work: &Work) -> Result<Vec<Bytes>> {
-    let segment = work.segment.as_slice();
-    let mut pieces = Vec::new(alloc);
-    for index in work.scheme.k..work.scheme.n {
-        if segment.len() > 1 << 40 {
-            bail!("the segment is too long");
-        }
-        match encode_piece(alloc, &work.scheme, segment, index) {
-            Ok(piece) => pieces.push(piece)?,
-            Err(_) => bail!("out of memory"),
-        }
-    }
-    Ok(pieces)
-}
-
-fn together(alloc: Global, work: &Work) -> Result<Vec<Bytes>> {
-    let segment = work.segment.as_slice();
-    if segment.len() > 1 << 40 {
-        bail!("the segment is too long");
-    }
-    match encode_pieces(alloc, &work.scheme, segment, work.parity.as_slice()) {
-        Ok(pieces) => Ok(pieces),
-        Err(_) => bail!("out of memory"),
-    }
-}
-
-// Writes so many shares of the stripe, one after another.
-fn write_shares(encoder: &mut Encoder, stripe: &[u8], count: usize, shares: &mut [u8])
-    requires stripe { length stripe.now ≤ encoder.old.k * encoder.old.size }
-    requires count { count ≤ length encoder.old.indexes }
-    ensures k { encoder.new.k ≡ encoder.old.k }
-    ensures size { encoder.new.size ≡ encoder.old.size }
-    ensures indexes { encoder.new.indexes ≡ encoder.old.indexes }
-{
-    encoder.hold(stripe);
-    let size = encoder.size();
-    for place in 0..count {
-        let start = place.wrapping_mul(size);
-        if start <= shares.len() && shares.len() - start >= size {
-            encoder.write_share(place, &mut shares[start..start + size]);
-        }
-    }
-}
-
-// The shares of the stripe, one after another, and the nanoseconds of so many rounds.
-fn kept(clock: &impl Clock, alloc: Global, work: &Work, rounds: u64) -> Result<(Vec<Bytes>, u128)> {
-    let stripe = work.segment.as_slice();
-    if stripe.len() > usize::from(work.scheme.k) * usize::from(work.scheme.share) {
-        bail!("more than a stripe");
-    }
-    let count = work.parity.len();
-    let Ok(mut encoder) = Encoder::new(alloc, &work.scheme, work.parity.as_slice()) else {
-        bail!("out of memory");
-    };
-    let mut shares = Vec::from_elem(alloc, 0, count.saturating_mul(encoder.size()))?;
-    let start = Instant::now(clock)?;
-    'rounds: for _ in 0..rounds {
-        write_shares(&mut encoder, stripe, count, shares.as_mut_slice());
-    }
-    let spent = start.elapsed(clock)?.as_nanos();
-    let mut pieces = Vec::new(alloc);
-    pieces.push(Bytes::of(shares))?;
-    Ok((pieces, spent))
-}
-
-// What a way makes, and the nanoseconds of so many rounds, of which there is at least one.
-fn turn(
-    clock: &impl Clock,
-    alloc: Global,
-    work: &Work,
-    way: Way,
-    rounds: u64,
-) -> Result<(u64, u128)> {
-    if way == Way::Kept {
-        let (pieces, spent) = kept(clock, alloc, work, rounds)?;
-        return Ok((sum_of(pieces.as_slice()), spent));
-    }
-    let mut pieces = Vec::new(alloc);
-    let start = Instant::now(clock)?;
-    for _ in 0..rounds {
-        pieces = if way == Way::Single {
-            single(alloc, work)?
-        } else {
-            together(alloc, work)?
-        };
-    }
-    let spent = start.elapsed(clock)?.as_nanos();
-    Ok((sum_of(pieces.as_slice()), spent))
 }
 
 fn main(rt: HostRuntime) -> Result<()> {
     let alloc = rt.alloc();
-    let timing = env::args(&rt)?.skip(1).any(|word| word.as_str() == "time");
-    for (share, stripes, rounds) in CASES {
-        let work = begin(alloc, share, stripes)?;
-        let ways = [Way::Single, Way::Together, Way::Kept];
-        let count = if stripes == 1 { 3 } else { 2 };
-        let (sum, _) = turn(&rt, alloc, &work, Way::Single, 1)?;
-        let mut best = [u128::MAX; 3];
-        for _ in 0..if timing { TURNS } else { 1 } {
-            for i in 0..count {
-                let (same, spent) = turn(
-                    &rt,
-                    alloc,
-                    &work,
-                    ways[i],
-                    if timing { rounds } else { 1 },
-                )?;
-                if same != sum {
-                    bail!("the check sums differ");
-                }
-                best[i] = best[i].min(spent);
-            }
-        }
-        println!(rt; "share {share} stripes {stripes} sum {sum}")?;
-        if timing {
-            let bytes = work.segment.len();
-            print!(rt;
-                "bytes {bytes} rounds {rounds} single {} together {}",
-                best[0], best[1]
-            )?;
-            if stripes == 1 {
-                print!(rt; " kept {}", best[2])?;
-            }
-            println!(rt)?;
-        }
-    }
-    Ok(())
+    let words: Vec<String> = env::args(&rt)?.skip(1).collect(alloc)?;
+    let words: Vec<&str> = words.iter().map(|word| word.as_str()).collect(alloc)?;
+    run(&rt, &words)
 }

@@ -1,17 +1,16 @@
 // Calls of each kind, each timed by itself.
 ghost use Rattle.machine_step.specs.Step.{IsWellFormed};
 
+use crate::dropping::Asked;
 use crate::made::{AMOUNT, LEN, Size, customer_of, node_of, now, serial_at};
 use crate::{fold, upkeep};
 use anyhow::{Result, bail};
 use audit_core::Checked;
-use machine_calls::are_bytes;
+use machine_calls::{Call, Reply, are_bytes};
 use order_limits::{Action, Keys, Limit, Order, read_order};
 use sat_base::{Items, NodeId, SegId, Serial};
-use sat_machine::{Call, Reply};
 use std::alloc::Global;
 use std::time::{Clock, Instant};
-use trial_core::Trial;
 
 /// What the machine is asked.
 #[derive(Clone, Copy)]
@@ -103,13 +102,15 @@ fn told(reply: Reply) -> (bool, u64) {
 }
 
 /// Asks a call. Nothing ends the function while there is a call or a reply, since to prove how these are let go takes long.
-pub(crate) fn timed(clock: &impl Clock, trial: &mut Trial, call: Call) -> Result<Answer>
-    requires { IsWellFormed trial.old call }
+pub(crate) fn timed(clock: &impl Clock, book: &mut Asked, call: Call) -> Result<Answer>
+    requires { IsWellFormed book.old.tables call }
 {
     let start = Instant::now(clock);
-    let reply = trial.take(call);
+    let reply = book.ask(call);
     let spent = start.map(|start| start.elapsed(clock));
-    let (accepted, sum) = reply.map(told)?;
+    let Some((accepted, sum)) = reply.map(told) else {
+        bail!("the term is full");
+    };
     Ok(Answer {
         accepted,
         sum,
@@ -121,7 +122,7 @@ fn settle(
     clock: &impl Clock,
     alloc: Global,
     keys: &Keys,
-    trial: &mut Trial,
+    book: &mut Asked,
     node: NodeId,
     serial: u64,
 ) -> Result<Answer> {
@@ -132,20 +133,20 @@ fn settle(
         node,
         bytes,
     };
-    timed(clock, trial, call)
+    timed(clock, book, call)
 }
 
-fn get(clock: &impl Clock, trial: &mut Trial, request: u64, segment: u64) -> Result<Answer> {
+fn get(clock: &impl Clock, book: &mut Asked, request: u64, segment: u64) -> Result<Answer> {
     let call = Call::Get {
         now: now(),
         customer: customer_of(segment),
         request,
         segment: SegId(segment),
     };
-    timed(clock, trial, call)
+    timed(clock, book, call)
 }
 
-fn begin(clock: &impl Clock, alloc: Global, trial: &mut Trial, request: u64) -> Result<Answer> {
+fn begin(clock: &impl Clock, alloc: Global, book: &mut Asked, request: u64) -> Result<Answer> {
     let words = Vec::from_slice(alloc, &random_words(request))?;
     let call = Call::Begin {
         now: now(),
@@ -154,17 +155,17 @@ fn begin(clock: &impl Clock, alloc: Global, trial: &mut Trial, request: u64) -> 
         len: LEN,
         words: Items::of(words),
     };
-    timed(clock, trial, call)
+    timed(clock, book, call)
 }
 
-fn delete(clock: &impl Clock, trial: &mut Trial, request: u64, segment: u64) -> Result<Answer> {
+fn delete(clock: &impl Clock, book: &mut Asked, request: u64, segment: u64) -> Result<Answer> {
     let call = Call::Delete {
         now: now(),
         customer: customer_of(segment),
         request,
         segment: SegId(segment),
     };
-    timed(clock, trial, call)
+    timed(clock, book, call)
 }
 
 /// Asks the call of a kind that has this number, from 0 on. The requests of later kinds have greater numbers.
@@ -172,7 +173,7 @@ pub(crate) fn ask(
     clock: &impl Clock,
     alloc: Global,
     keys: &Keys,
-    trial: &mut Trial,
+    book: &mut Asked,
     size: Size,
     kind: Kind,
     number: u64,
@@ -181,30 +182,30 @@ pub(crate) fn ask(
     match kind {
         Kind::SettleAbove => {
             let serial = serial_at(size.rows.saturating_add(number));
-            settle(clock, alloc, keys, trial, node_of(size, serial), serial)
+            settle(clock, alloc, keys, book, node_of(size, serial), serial)
         }
         Kind::SettleAmong => {
             let serial = serial_at(spread(number, size, size.rows)).saturating_add(1);
-            settle(clock, alloc, keys, trial, node_of(size, serial), serial)
+            settle(clock, alloc, keys, book, node_of(size, serial), serial)
         }
         Kind::Get => {
             let segment = spread(number, size, size.segments).saturating_add(1);
-            get(clock, trial, request, segment)
+            get(clock, book, request, segment)
         }
         Kind::Begin => {
             let request = request.saturating_add(size.calls);
-            begin(clock, alloc, trial, request)
+            begin(clock, alloc, book, request)
         }
         Kind::Delete => {
             let segment = spread(number, size, size.segments).saturating_add(2);
             let request = request.saturating_add(size.calls.saturating_mul(2));
-            delete(clock, trial, request, segment)
+            delete(clock, book, request, segment)
         }
-        Kind::SetFree => upkeep::set_free(clock, trial, node_of(size, number), number),
-        Kind::PlanAudit => upkeep::plan_audit(clock, alloc, trial, number),
-        Kind::PlanRepair => upkeep::plan_repair(clock, alloc, trial, number),
-        Kind::PlanExit => upkeep::plan_exit(clock, alloc, trial, number),
-        Kind::Recheck => upkeep::recheck(clock, trial, Checked::Pass),
+        Kind::SetFree => upkeep::set_free(clock, book, node_of(size, number), number),
+        Kind::PlanAudit => upkeep::plan_audit(clock, alloc, book, number),
+        Kind::PlanRepair => upkeep::plan_repair(clock, alloc, book, number),
+        Kind::PlanExit => upkeep::plan_exit(clock, alloc, book, number),
+        Kind::Recheck => upkeep::recheck(clock, book, Checked::Pass),
     }
 }
 

@@ -1,6 +1,6 @@
 // Check sums of replies.
+use machine_calls::Reply;
 use sat_base::{Done, Offer, Place};
-use sat_machine::Reply;
 
 /// The sum over no replies.
 pub(crate) const EMPTY: u64 = 0xcbf2_9ce4_8422_2325;

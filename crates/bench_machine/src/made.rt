@@ -1,15 +1,18 @@
-// The records of the stores that are asked.
+// The rows of the stores that are asked.
 ghost use Rattle.std.specs.Prelude.{◌≡◌, IfOk};
 ghost use Rattle.segment_core.specs.Places.{IsOffer};
 
 use anyhow::{Result, bail};
 use node_registry::{Node, Status};
 use order_limits::Action;
-use sat_base::{
-    At, Caps, Containment, Customer, CustomerId, Hour, Items, Marks, Moment, Month, NodeId, Rates,
-    Scheme, SegId, Serial, Settings, Tariff,
+use record_rows::{
+    write_containment, write_customer, write_marks, write_node, write_segment, write_settings,
+    write_settled, write_tariff,
 };
-use sat_machine::Parts0;
+use sat_base::{
+    At, Caps, Change, Containment, Customer, CustomerId, Hour, Items, Marks, Moment, Month, NodeId,
+    Rates, Scheme, SegId, Serial, Settings, Tariff,
+};
 use segment_core::Segment;
 use settlement::SettledRow;
 use std::alloc::{AllocError, Global};
@@ -124,40 +127,23 @@ fn node(size: Size, place: u64) -> Node {
     }
 }
 
-fn nodes(alloc: Global, size: Size) -> Result<Vec<Node>, AllocError> {
-    let mut nodes = Vec::with_capacity(alloc, size.nodes as usize)?;
-    for place in 0..size.nodes {
-        nodes.push(node(size, place))?;
+// A node owes the first share of a segment.
+fn containment(size: Size, number: u64) -> Containment {
+    Containment {
+        node: node_of(size, number),
+        segment: SegId(number),
+        index: 0,
+        stripe: 0,
+        expect: [0; 32],
+        tries: 0,
     }
-    Ok(nodes)
 }
 
-// The nodes from the second on, one for each call and one more, owe the first share of a segment each.
-fn containments(alloc: Global, size: Size) -> Result<Vec<Containment>, AllocError> {
-    let last = size.calls.saturating_add(2);
-    let mut containments = Vec::with_capacity(alloc, last as usize)?;
-    for number in 1..last {
-        containments.push(Containment {
-            node: node_of(size, number),
-            segment: SegId(number),
-            index: 0,
-            stripe: 0,
-            expect: [0; 32],
-            tries: 0,
-        })?;
+fn customer(place: u64) -> Customer {
+    Customer {
+        id: customer_of(place),
+        added: now(),
     }
-    Ok(containments)
-}
-
-fn customers(alloc: Global) -> Result<Vec<Customer>, AllocError> {
-    let mut customers = Vec::with_capacity(alloc, CUSTOMERS as usize)?;
-    for place in 0..CUSTOMERS {
-        customers.push(Customer {
-            id: customer_of(place),
-            added: now(),
-        })?;
-    }
-    Ok(customers)
 }
 
 // The piece of an index. Those of a segment lie on consecutive nodes.
@@ -194,26 +180,14 @@ fn segment(alloc: Global, size: Size, id: u64) -> Result<Segment, AllocError> {
     })
 }
 
-fn segments(alloc: Global, size: Size) -> Result<Vec<Segment>, AllocError> {
-    let mut segments = Vec::with_capacity(alloc, size.segments as usize)?;
-    for place in 0..size.segments {
-        segments.push(segment(alloc, size, place.saturating_add(1))?)?;
+fn settled(size: Size, place: u64) -> SettledRow {
+    SettledRow {
+        serial: Serial(serial_at(place)),
+        node: node_of(size, place),
+        action: Action::Get,
+        amount: AMOUNT,
+        at: now(),
     }
-    Ok(segments)
-}
-
-fn settled(alloc: Global, size: Size) -> Result<Vec<SettledRow>, AllocError> {
-    let mut rows = Vec::with_capacity(alloc, size.rows as usize)?;
-    for place in 0..size.rows {
-        rows.push(SettledRow {
-            serial: Serial(serial_at(place)),
-            node: node_of(size, place),
-            action: Action::Get,
-            amount: AMOUNT,
-            at: now(),
-        })?;
-    }
-    Ok(rows)
 }
 
 fn tariff() -> Tariff {
@@ -228,16 +202,42 @@ fn tariff() -> Tariff {
     }
 }
 
-/// The records of a store of this size. Its segments have the ids from 1 on.
-pub(crate) fn parts(alloc: Global, size: Size) -> Result<Parts0> {
-    let mut parts = Parts0::new(alloc);
-    parts.settings = vec![in alloc; settings()?]?;
-    parts.marks = vec![in alloc; marks(size)]?;
-    parts.nodes = nodes(alloc, size)?;
-    parts.customers = customers(alloc)?;
-    parts.segments = segments(alloc, size)?;
-    parts.settled = settled(alloc, size)?;
-    parts.containments = containments(alloc, size)?;
-    parts.tariffs = vec![in alloc; tariff()]?;
-    Ok(parts)
+fn put_segment(alloc: Global, changes: &mut Vec<Change>, size: Size, id: u64) -> Result<()> {
+    let segment = segment(alloc, size, id)?;
+    if segment.pieces.len() > 128 {
+        bail!("too many pieces");
+    }
+    Ok(changes.push(Change::Put(write_segment(alloc, &segment)?))?)
+}
+
+// Nodes, customers, segments and settled orders.
+fn put_many(alloc: Global, changes: &mut Vec<Change>, size: Size) -> Result<()> {
+    for place in 0..size.nodes {
+        changes.push(Change::Put(write_node(alloc, &node(size, place))?))?;
+    }
+    for place in 0..CUSTOMERS {
+        changes.push(Change::Put(write_customer(alloc, &customer(place))?))?;
+    }
+    for place in 0..size.segments {
+        put_segment(alloc, changes, size, place.saturating_add(1))?;
+    }
+    for place in 0..size.rows {
+        changes.push(Change::Put(write_settled(alloc, &settled(size, place))?))?;
+    }
+    Ok(())
+}
+
+/// What makes the rows of a store of this size, by rising keys. Its segments have the ids from 1 on. The nodes from the second
+/// on, one for each call and one more, owe the first share of a segment each.
+pub(crate) fn changes(alloc: Global, size: Size) -> Result<Vec<Change>> {
+    let mut changes = Vec::new(alloc);
+    changes.push(Change::Put(write_settings(alloc, &settings()?)?))?;
+    changes.push(Change::Put(write_marks(alloc, &marks(size))?))?;
+    put_many(alloc, &mut changes, size)?;
+    for number in 1..size.calls.saturating_add(2) {
+        let row = write_containment(alloc, &containment(size, number))?;
+        changes.push(Change::Put(row))?;
+    }
+    changes.push(Change::Put(write_tariff(alloc, &tariff())?))?;
+    Ok(changes)
 }

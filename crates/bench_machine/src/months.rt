@@ -1,13 +1,13 @@
 // Months in which some hours are tallied, and which are closed then, each call timed by itself.
 use crate::calls::{Answer, timed};
+use crate::dropping::Asked;
 use crate::made::{MONTH, NOW, Size, node_of};
 use crate::runs::Outcome;
 use anyhow::Result;
+use machine_calls::Call;
 use sat_base::{Moment, Month};
-use sat_machine::Call;
 use std::alloc::Global;
 use std::time::Clock;
-use trial_core::Trial;
 
 // When the store's month is over, and each of the next ones.
 const ENDS: [u64; 5] = [
@@ -29,20 +29,20 @@ pub(crate) struct Months {
     pub statements: Outcome,
 }
 
-fn tally_hour(clock: &impl Clock, trial: &mut Trial, at: u64) -> Result<Answer> {
+fn tally_hour(clock: &impl Clock, book: &mut Asked, at: u64) -> Result<Answer> {
     let now = Moment::of(at);
-    timed(clock, trial, Call::TallyHour { now })
+    timed(clock, book, Call::TallyHour { now })
 }
 
-fn close_month(clock: &impl Clock, trial: &mut Trial, at: u64, month: Month) -> Result<Answer> {
+fn close_month(clock: &impl Clock, book: &mut Asked, at: u64, month: Month) -> Result<Answer> {
     let now = Moment::of(at);
-    timed(clock, trial, Call::CloseMonth { now, month })
+    timed(clock, book, Call::CloseMonth { now, month })
 }
 
 // The statements of the first month, of one node for each call of a kind.
 fn ask_statements(
     clock: &impl Clock,
-    trial: &mut Trial,
+    book: &mut Asked,
     size: Size,
     outcome: &mut Outcome,
 ) -> Result<()> {
@@ -51,7 +51,7 @@ fn ask_statements(
             node: node_of(size, number),
             month: Month(MONTH),
         };
-        outcome.add(timed(clock, trial, call)?)?;
+        outcome.add(timed(clock, book, call)?)?;
     }
     Ok(())
 }
@@ -60,7 +60,7 @@ fn ask_statements(
 pub(crate) fn pass(
     clock: &impl Clock,
     alloc: Global,
-    trial: &mut Trial,
+    book: &mut Asked,
     size: Size,
 ) -> Result<Months> {
     let mut months = Months {
@@ -73,14 +73,14 @@ pub(crate) fn pass(
     for end in ENDS {
         for hour in 0..HOURS {
             let at = from.saturating_add(hour.saturating_mul(3600));
-            months.tallies.add(tally_hour(clock, trial, at)?)?;
+            months.tallies.add(tally_hour(clock, book, at)?)?;
         }
         months
             .closes
-            .add(close_month(clock, trial, end, Month(month))?)?;
+            .add(close_month(clock, book, end, Month(month))?)?;
         month = month.saturating_add(1);
         from = end;
     }
-    ask_statements(clock, trial, size, &mut months.statements)?;
+    ask_statements(clock, book, size, &mut months.statements)?;
     Ok(months)
 }

@@ -1,6 +1,7 @@
 // A store that is asked calls of every kind.
 use crate::calls::{Answer, Kind, ask, read_alone};
-use crate::made::{SECRET, Size, parts};
+use crate::dropping::{Asked, DroppingKeeper, TERM};
+use crate::made::{SECRET, Size, changes};
 use crate::{fold, months, upkeep};
 use anyhow::{Result, bail};
 use audit_core::Checked;
@@ -8,7 +9,6 @@ use order_limits::Keys;
 use sat_base::NodeId;
 use std::alloc::Global;
 use std::time::{Clock, Instant};
-use trial_core::Trial;
 
 const KINDS: [Kind; 10] = [
     Kind::SettleAbove,
@@ -52,13 +52,13 @@ impl Outcome {
     }
 }
 
-// The machine of a store, and how many nanoseconds its making took.
-fn open(clock: &impl Clock, alloc: Global, size: Size) -> Result<(Trial, u128)> {
-    let parts = parts(alloc, size)?;
+// The book of a store, and how many nanoseconds its making took.
+fn open(clock: &impl Clock, alloc: Global, size: Size) -> Result<(Asked, u128)> {
+    let keeper = DroppingKeeper::of(alloc, &changes(alloc, size)?)?;
     let start = Instant::now(clock)?;
-    match Trial::open(alloc, parts) {
-        Ok(trial) => Ok((trial, start.elapsed(clock)?.as_nanos())),
-        Err(_) => bail!("the records make no machine"),
+    match Asked::open(alloc, keeper, TERM) {
+        Ok(book) => Ok((book, start.elapsed(clock)?.as_nanos())),
+        Err(_) => bail!("the rows make no book"),
     }
 }
 
@@ -66,13 +66,13 @@ fn outcome_of(
     clock: &impl Clock,
     alloc: Global,
     keys: &Keys,
-    trial: &mut Trial,
+    book: &mut Asked,
     size: Size,
     kind: Kind,
 ) -> Result<Outcome> {
     let mut outcome = Outcome::new(alloc);
     for number in 0..size.calls {
-        outcome.add(ask(clock, alloc, keys, trial, size, kind, number)?)?;
+        outcome.add(ask(clock, alloc, keys, book, size, kind, number)?)?;
     }
     Ok(outcome)
 }
@@ -124,9 +124,9 @@ fn print_accepted(rt: &HostRuntime, what: &str, outcome: Outcome) -> Result<()> 
 }
 
 // A node fails its recheck and is disqualified. The next call counts its pieces as lost.
-fn time_loss(rt: &HostRuntime, trial: &mut Trial) -> Result<()> {
-    let failed = upkeep::recheck(rt, trial, Checked::Fail)?.spent;
-    let behind = upkeep::set_free(rt, trial, NodeId(1), 0)?.spent;
+fn time_loss(rt: &HostRuntime, book: &mut Asked) -> Result<()> {
+    let failed = upkeep::recheck(rt, book, Checked::Fail)?.spent;
+    let behind = upkeep::set_free(rt, book, NodeId(1), 0)?.spent;
     println!(rt; "disqualified failed {failed} behind {behind}")?;
     Ok(())
 }
@@ -135,12 +135,12 @@ fn time_loss(rt: &HostRuntime, trial: &mut Trial) -> Result<()> {
 pub(crate) fn check(rt: &HostRuntime, size: Size) -> Result<()> {
     test_size(size)?;
     let keys = Keys::new(SECRET);
-    let (mut trial, _) = open(rt, rt.alloc(), size)?;
+    let (mut book, _) = open(rt, rt.alloc(), size)?;
     for kind in KINDS {
-        let outcome = outcome_of(rt, rt.alloc(), &keys, &mut trial, size, kind)?;
+        let outcome = outcome_of(rt, rt.alloc(), &keys, &mut book, size, kind)?;
         print_sum(rt, kind.name(), &outcome)?;
     }
-    let months = months::pass(rt, rt.alloc(), &mut trial, size)?;
+    let months = months::pass(rt, rt.alloc(), &mut book, size)?;
     print_sum(rt, "tally_hour", &months.tallies)?;
     print_sum(rt, "close_month", &months.closes)?;
     print_sum(rt, "statement", &months.statements)
@@ -150,15 +150,15 @@ pub(crate) fn check(rt: &HostRuntime, size: Size) -> Result<()> {
 pub(crate) fn time(rt: &HostRuntime, size: Size) -> Result<()> {
     test_size(size)?;
     let keys = Keys::new(SECRET);
-    let (mut trial, spent) = open(rt, rt.alloc(), size)?;
+    let (mut book, spent) = open(rt, rt.alloc(), size)?;
     println!(rt; "open {spent}")?;
     time_reading(rt, &keys, size)?;
     for kind in KINDS {
-        let outcome = outcome_of(rt, rt.alloc(), &keys, &mut trial, size, kind)?;
+        let outcome = outcome_of(rt, rt.alloc(), &keys, &mut book, size, kind)?;
         print_accepted(rt, kind.name(), outcome)?;
     }
-    time_loss(rt, &mut trial)?;
-    let months = months::pass(rt, rt.alloc(), &mut trial, size)?;
+    time_loss(rt, &mut book)?;
+    let months = months::pass(rt, rt.alloc(), &mut book, size)?;
     print_accepted(rt, "tally_hour", months.tallies)?;
     print_accepted(rt, "close_month", months.closes)?;
     print_accepted(rt, "statement", months.statements)

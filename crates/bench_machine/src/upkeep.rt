@@ -1,18 +1,18 @@
 // Calls of the satellite's own work, each timed by itself.
 use crate::calls::{Answer, random_words, timed};
+use crate::dropping::Asked;
 use crate::made::now;
 use anyhow::{Result, bail};
 use audit_core::{Checked, RecheckPlan};
+use machine_calls::{Call, Reply};
 use sat_base::{Items, NodeId};
-use sat_machine::{Call, Reply};
 use std::alloc::Global;
 use std::time::{Clock, Instant};
-use trial_core::Trial;
 
 /// A node tells other free bytes at each call.
 pub(crate) fn set_free(
     clock: &impl Clock,
-    trial: &mut Trial,
+    book: &mut Asked,
     node: NodeId,
     free: u64,
 ) -> Result<Answer> {
@@ -21,13 +21,13 @@ pub(crate) fn set_free(
         node,
         free,
     };
-    timed(clock, trial, call)
+    timed(clock, book, call)
 }
 
 pub(crate) fn plan_audit(
     clock: &impl Clock,
     alloc: Global,
-    trial: &mut Trial,
+    book: &mut Asked,
     seed: u64,
 ) -> Result<Answer> {
     let words = Vec::from_slice(alloc, &[seed, seed])?;
@@ -35,13 +35,13 @@ pub(crate) fn plan_audit(
         now: now(),
         words: Items::of(words),
     };
-    timed(clock, trial, call)
+    timed(clock, book, call)
 }
 
 pub(crate) fn plan_repair(
     clock: &impl Clock,
     alloc: Global,
-    trial: &mut Trial,
+    book: &mut Asked,
     seed: u64,
 ) -> Result<Answer> {
     let words = Vec::from_slice(alloc, &random_words(seed))?;
@@ -49,13 +49,13 @@ pub(crate) fn plan_repair(
         now: now(),
         words: Items::of(words),
     };
-    timed(clock, trial, call)
+    timed(clock, book, call)
 }
 
 pub(crate) fn plan_exit(
     clock: &impl Clock,
     alloc: Global,
-    trial: &mut Trial,
+    book: &mut Asked,
     seed: u64,
 ) -> Result<Answer> {
     let words = Vec::from_slice(alloc, &random_words(seed))?;
@@ -63,27 +63,30 @@ pub(crate) fn plan_exit(
         now: now(),
         words: Items::of(words),
     };
-    timed(clock, trial, call)
+    timed(clock, book, call)
 }
 
-fn recheck_plan(trial: &mut Trial) -> Result<RecheckPlan> {
-    match trial.take(Call::PlanRecheck { now: now() })? {
+fn recheck_plan(book: &mut Asked) -> Result<RecheckPlan> {
+    let Some(reply) = book.ask(Call::PlanRecheck { now: now() }) else {
+        bail!("the term is full");
+    };
+    match reply {
         Reply::RecheckPlanned { plan, .. } => Ok(plan),
         _ => bail!("no recheck is planned"),
     }
 }
 
 /// A recheck is planned, and ended by what came of it.
-pub(crate) fn recheck(clock: &impl Clock, trial: &mut Trial, checked: Checked) -> Result<Answer> {
+pub(crate) fn recheck(clock: &impl Clock, book: &mut Asked, checked: Checked) -> Result<Answer> {
     let start = Instant::now(clock)?;
-    let plan = recheck_plan(trial)?;
+    let plan = recheck_plan(book)?;
     let planned = start.elapsed(clock)?.as_nanos();
     let call = Call::EndRecheck {
         now: now(),
         plan,
         checked,
     };
-    let ended = timed(clock, trial, call)?;
+    let ended = timed(clock, book, call)?;
     Ok(Answer {
         spent: planned.saturating_add(ended.spent),
         ..ended

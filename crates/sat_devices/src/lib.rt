@@ -2,25 +2,35 @@
 //!
 //! They are the trusted edge, a few lines each, and tell nothing of what they hold.
 //!
-//! - **Links**: [`Console`] over standard input and output, and [`TcpLink`] over a connection. A call that a signal
-//!   interrupts is made again. A write that takes no byte of a piece counts as failed.
-//! - **Lanes**: [`TcpLane`], the connections that come to a port of 127.0.0.1, one at a time.
+//! - **Console**: [`Console`] over standard input and output. A call that a signal interrupts is made again. A write that
+//!   takes no byte of a piece counts as failed.
+//! - **Lanes**: [`TcpLane`], the connections that come to a port of 127.0.0.1, each a [`TcpLink`]. It takes and reads up to
+//!   4096 of them side by side while it waits, so a client that says nothing holds nobody: a link is handed out once its
+//!   request is decided, or its client sends no more. What a client doesn't take of its answer is written in the same way.
 //! - **Nodes**: [`NodeLink`], storage nodes over TCP that are asked one at a time, by `node_wire`.
 //! - **Time and chance**: [`SystemClock`], which gives its last moment again where the machine's can't be read,
 //!   [`SleepTicks`], and [`MachineWords`] from the system's source of random numbers.
 //!
 //! A call that is answered as failed raises its object's count by one, and no other answer does.
 //!
-//! A connection is given ten seconds for a read or a write, thirty for all reads of its request, and as many for all
-//! writes of its answer. So a silent client gives its lane back. Where it is given back to its lane it is read on for
-//! up to a second, so that bytes which nobody read don't lose the answer. A node is asked for ten seconds at most.
+//! A connection whose client is silent for ten seconds, or whose request takes more than thirty, is closed without an
+//! answer, but where its head is whole it is handed out, since that may decide it; one whose answer isn't taken within
+//! thirty is closed, too. Where its answer is written it is read on for up to
+//! two seconds, so that bytes which nobody read don't lose the answer. Where places, files or memory are wanting, the
+//! connection that came first of those whose requests aren't whole makes room. An error of the system ends a lane only
+//! where it says that the port takes no connection any more. A node is asked for ten seconds at most.
 //!
 //! Not promised: what a terminal, a file, a client or a node sends, that a request reaches a node, that a call returns,
 //! how long it takes, that words are random, or that a failed call of the system is answered as failed. `trial_devices`
 //! and `trial_gather` try these.
 #![tactic(auto)]
 
+mod arriving;
 mod console;
+mod front;
+mod guests;
+mod leaving;
+mod luck;
 mod machine_words;
 mod node_link;
 mod once;
@@ -29,6 +39,8 @@ mod system_clock;
 mod tcp_lane;
 mod tcp_link;
 mod time_limit;
+mod whole;
+mod within;
 
 pub use console::Console;
 pub use machine_words::MachineWords;

@@ -5,8 +5,8 @@ ghost use Rattle.sat_base.specs.Nodes.{Fetches, FetchesWithin, Stores, fetch_ask
 ghost use Rattle.node_wire.specs.Answers.{IsHeardFetch, IsHeardPut, no_asks, no_held};
 ghost use Rattle.node_wire.specs.Readings.{ComesTo, IsAbout, IsOpen, question_of};
 
-use crate::tcp_link::{read_within, write_within};
 use crate::time_limit::TimeLimit;
+use crate::within::{read_within, write_within};
 use node_wire::{Fed, Outcome, Reading, address, fetch_request, fetched, put_request, stored};
 use sat_base::{Ask, Fetched, Nodes, Stored};
 use std::alloc::Global;

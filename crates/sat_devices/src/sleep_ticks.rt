@@ -8,8 +8,8 @@ use std::marker::Model;
 use std::thread;
 use std::time::{Clock, Duration};
 
-/// Ticks that come after a sleep each, for as long as they are waited for. Contracts see how many seconds it takes, and
-/// how many came, up to 2^64 - 1.
+/// Ticks that come after a sleep each, but the first, which comes at once, for as long as they are waited for. Contracts see
+/// how many seconds a sleep takes, and how many ticks came, up to 2^64 - 1.
 #[derive(Drop)]
 pub struct SleepTicks<R: Clock + Drop> {
     rt: R,
@@ -24,7 +24,7 @@ impl<R: Clock + Drop> Model for SleepTicks<R> {
 }
 
 impl<R: Clock + Drop> SleepTicks<R> {
-    /// Ticks of which each comes so many seconds after it is waited for, the first one too.
+    /// Ticks of which the first one comes at once, and each other one so many seconds after it is waited for.
     pub fn new(rt: R, seconds: u32) -> Self
         ensures { result ≡ record { seconds = seconds; given = 0 } }
     {
@@ -45,7 +45,9 @@ impl<R: Clock + Drop + Send> Ticks for SleepTicks<R> {
         // Beside what all ticks promise.
         ensures seconds { self.new.seconds ≡ self.old.seconds }
     {
-        thread::sleep(&self.rt, Duration::from_secs(u64::from(self.seconds)));
+        if self.given > 0 {
+            thread::sleep(&self.rt, Duration::from_secs(u64::from(self.seconds)));
+        }
         self.given = self.given.saturating_add(1);
         Beat::Tick
     }

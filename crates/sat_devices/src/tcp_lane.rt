@@ -5,22 +5,20 @@ ghost use Rattle.sat_devices.specs.Faults.{device_about};
 ghost use Rattle.sat_devices.specs.Waits.{AtPort, lane_about};
 
 use crate::TcpLink;
+use crate::front::Front;
+use mio::net::TcpListener;
 use sat_base::{Came, Lane};
 use std::io;
-use std::io::ErrorKind;
 use std::marker::Model;
-use std::net::{Ipv4Addr, Net, SocketAddr, SocketAddrV4, TcpListener, TcpStream};
+use std::net::{Ipv4Addr, Net, SocketAddr, SocketAddrV4};
 use std::time::Clock;
 
-// How many connections in a row may be gone before they are taken.
-const TRIES: u32 = 1024;
-
-/// The connections that come to a port of 127.0.0.1, one at a time. Contracts see the port, how many were handed out,
-/// and how many waits have failed, both up to 2^64 - 1. None is the last.
+/// The connections that come to a port of 127.0.0.1, one at a time, each once its request is decided or its client sends no
+/// more. Contracts see the port, how many were handed out, and how many waits have failed, both up to 2^64 - 1. None is the
+/// last.
 #[derive(Drop)]
 pub struct TcpLane<R: Clock + Copy> {
-    rt: R,
-    listener: TcpListener,
+    front: Front<R>,
     port: u16,
     given: u64,
     faults: u64,
@@ -32,7 +30,7 @@ impl<R: Clock + Copy> Model for TcpLane<R> {
     ghost view = { λ l. record { port = l.port; given = l.given; faults = l.faults } };
 }
 
-impl<R: Clock + Copy + Net<Listener = TcpListener, Stream = TcpStream>> TcpLane<R> {
+impl<R: Clock + Copy + Net + AllocGlobal> TcpLane<R> {
     /// A lane at this port of 127.0.0.1, or at one that the system picks where it is 0. An error is the system's, as
     /// where another program has the port.
     pub fn listen(rt: R, port: u16) -> io::Result<TcpLane<R>>
@@ -40,36 +38,22 @@ impl<R: Clock + Copy + Net<Listener = TcpListener, Stream = TcpStream>> TcpLane<
         ensures port { IfOk result (λ l. 0 < port → l.port ≡ port) }
     {
         let at = SocketAddr::V4(SocketAddrV4::new(Ipv4Addr::LOCALHOST, port));
-        let listener = rt.bind(at)?;
-        if port == 0 {
-            return TcpLane::of(rt, listener);
-        }
-        Ok(TcpLane::at(rt, listener, port))
+        let listener = TcpListener::bind(&rt, at)?;
+        let at = if port == 0 {
+            listener.local_addr()?.port()
+        } else {
+            port
+        };
+        Ok(TcpLane {
+            front: Front::new(rt, rt.alloc(), listener)?,
+            port: at,
+            given: 0,
+            faults: 0,
+        })
     }
 }
 
 impl<R: Clock + Copy> TcpLane<R> {
-    /// A lane of what comes to a listener. An error is the system's, where it doesn't tell the listener's port.
-    pub fn of(rt: R, listener: TcpListener) -> io::Result<TcpLane<R>>
-        ensures { IfOk result (λ l. (l.given ≡ 0) × (l.faults ≡ 0)) }
-    {
-        let port = listener.local_addr()?.port();
-        Ok(TcpLane::at(rt, listener, port))
-    }
-
-    // A lane of a listener that has this port.
-    fn at(rt: R, listener: TcpListener, port: u16) -> TcpLane<R>
-        ensures { result ≡ record { port = port; given = 0; faults = 0 } }
-    {
-        TcpLane {
-            rt,
-            listener,
-            port,
-            given: 0,
-            faults: 0,
-        }
-    }
-
     /// The port.
     pub fn port(&self) -> u16
         ensures { result ≡ self.now.port }
@@ -85,23 +69,6 @@ impl<R: Clock + Copy> TcpLane<R> {
     }
 }
 
-// The next connection. One that its client gave up before it was taken is passed over.
-fn accept(listener: &TcpListener) -> io::Result<TcpStream> {
-    for _ in 0..TRIES {
-        match listener.accept() {
-            Ok((stream, _)) => return Ok(stream),
-            Err(e) if is_passing(e.kind()) => {}
-            Err(e) => return Err(e),
-        }
-    }
-    Err(io::Error::from(ErrorKind::ConnectionAborted))
-}
-
-// The error is of one connection, or of one call, and not of the port.
-fn is_passing(kind: ErrorKind) -> bool {
-    kind == ErrorKind::ConnectionAborted || kind == ErrorKind::Interrupted
-}
-
 impl<R: Clock + Copy + Send> Lane for TcpLane<R> {
     type Conn = TcpLink<R>;
 
@@ -113,10 +80,10 @@ impl<R: Clock + Copy + Send> Lane for TcpLane<R> {
         // Beside what every lane promises.
         ensures port { self.new.port ≡ self.old.port }
     {
-        match accept(&self.listener) {
-            Ok(stream) => {
+        match self.front.next() {
+            Ok(link) => {
                 self.given = self.given.saturating_add(1);
-                Came::Conn(TcpLink::new(self.rt, stream))
+                Came::Conn(link)
             }
             Err(_) => {
                 self.faults = self.faults.saturating_add(1);
@@ -129,6 +96,6 @@ impl<R: Clock + Copy + Send> Lane for TcpLane<R> {
         ensures returned { lane_about self.new ≡ got_back (lane_about self.old) (device_about conn) }
         ensures port { self.new.port ≡ self.old.port }
     {
-        conn.close();
+        self.front.back(conn);
     }
 }

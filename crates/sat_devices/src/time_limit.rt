@@ -30,4 +30,9 @@ impl TimeLimit {
         }
         Some(left.min(Duration::from_secs(seconds)))
     }
+
+    /// Whether the time is up.
+    pub(crate) fn is_up(&self, clock: &impl Clock) -> bool {
+        self.left(clock, 1).is_none()
+    }
 }

@@ -42,13 +42,18 @@ fn kit<N>(rt: HostRuntime, nodes: N, tick: u32) -> Kit<N, Clock, Random, SleepTi
     }
 }
 
-/// A lane at each of so many ports of 127.0.0.1.
+/// A lane at each of so many ports of 127.0.0.1. A port that can't be had is told on standard error.
 pub fn bound(rt: HostRuntime, alloc: Global, port: u16, lanes: u16) -> Result<Lanes, StartErr> {
     let mut posts = Vec::new(alloc);
     for number in 0..lanes {
-        let lane = match TcpLane::listen(rt, port.saturating_add(number)) {
+        let port = port.saturating_add(number);
+        let lane = match TcpLane::listen(rt, port) {
             Ok(lane) => lane,
-            Err(_) => return Err(StartErr::Start),
+            Err(e) => {
+                // It stands whether that can be told or not.
+                let _ = eprintln!(rt; "satellite: port {port}: {e}");
+                return Err(StartErr::Start);
+            }
         };
         let post = Post {
             lane,

@@ -6,6 +6,8 @@
 //! is `satellite_cli`'s contract. Of `main` itself nothing is proved but that it is safe; the gate runs it on examples.
 #![tactic(auto)]
 
+ghost use Rattle.std.specs.Prelude.{◌≡◌, []};
+
 mod devices;
 mod store;
 
@@ -48,6 +50,17 @@ fn words<R: Env + AllocGlobal>(rt: &R, alloc: Global) -> Result<Line, NoMemory> 
     Ok(line)
 }
 
+// What serves where nothing is served.
+fn idle<N>(alloc: Global, network: Network<N>) -> Crew<N>
+    ensures { result.posts.items ≡ [] }
+{
+    Crew {
+        posts: Vec::new(alloc),
+        tick: 0,
+        network,
+    }
+}
+
 // A run of a command without a store.
 fn without_store<N: Nodes + Send, R: Threads + Wait + Sync>(
     rt: HostRuntime,
@@ -58,12 +71,7 @@ fn without_store<N: Nodes + Send, R: Threads + Wait + Sync>(
 ) -> u8 {
     let keeper = KeeperMem::of(Vec::new(alloc), Vec::new(alloc));
     let console = Console::new(rt.reader(), io::writer(&rt));
-    let crew = Crew {
-        posts: Vec::new(alloc),
-        tick: 0,
-        network,
-    };
-    let world = devices(rt, console, keeper, crew);
+    let world = devices(rt, console, keeper, idle(alloc, network));
     let (status, _) = devices::run(handles, alloc, line, world);
     status
 }
@@ -79,14 +87,19 @@ fn run<N: Nodes + Send, R: Threads + Wait + Sync>(
         Err(NoMemory) => return Err(StartErr::NoMemory),
     };
     match read_line(alloc, &line) {
-        Ok(Command::Init { store, .. } | Command::Sheet { store, .. }) => {
+        Ok(Command::Init { store, .. }) => {
             let open = OpenStore {
                 name: store.as_slice(),
-                crew: Crew {
-                    posts: Vec::new(alloc),
-                    tick: 0,
-                    network,
-                },
+                may_make: true,
+                crew: idle(alloc, network),
+            };
+            over_file(rt, handles, alloc, &line, open)
+        }
+        Ok(Command::Sheet { store, .. }) => {
+            let open = OpenStore {
+                name: store.as_slice(),
+                may_make: false,
+                crew: idle(alloc, network),
             };
             over_file(rt, handles, alloc, &line, open)
         }
@@ -102,6 +115,7 @@ fn run<N: Nodes + Send, R: Threads + Wait + Sync>(
             let posts = bound(rt, alloc, port, lanes)?;
             let open = OpenStore {
                 name: store.as_slice(),
+                may_make: false,
                 crew: Crew {
                     posts,
                     tick,

@@ -3,7 +3,6 @@ ghost use Rattle.std.specs.Prelude.{◌≡◌, ◌<◌, ◌*◌, length, All, If
 ghost use Rattle.bw_decode.specs.Altered.{indexes_of};
 ghost use Rattle.bw_decode.specs.Near.{Rises};
 
-use crate::indexes::are_in_order;
 use crate::random::Random;
 use crate::schemes::scheme;
 use crate::stripes::{decode, said_of_both};
@@ -12,6 +11,7 @@ use rs_stripe::encode_share;
 use sat_base::{Bytes, NoMemory, Scheme, Share};
 use std::alloc::Global;
 use std::process::Abort;
+use trial_indexes::are_in_order;
 
 // Which bytes of an answer are altered.
 #[derive(Clone, Copy, PartialEq, Eq)]

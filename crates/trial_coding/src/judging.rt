@@ -2,7 +2,6 @@
 ghost use Rattle.std.specs.Prelude.{◌≡◌, false, length, All, IfOk};
 ghost use Rattle.audit_core.specs.Heard.{heard_indexes, is_wanting, place_indexes};
 
-use crate::indexes::are_rising;
 use crate::repairs::places;
 use crate::schemes::scheme;
 use audit_core::{AuditPlan, Heard, Judged, Verdict, judge};
@@ -10,6 +9,7 @@ use bw_decode::Scratch;
 use sat_base::{Fetched, Items, Moment, NoMemory, SegId, Serial};
 use std::alloc::Global;
 use std::process::Abort;
+use trial_indexes::are_rising;
 
 // What a node answers: a byte as its share, or nothing that is a share.
 #[derive(Clone, Copy)]

@@ -1,21 +1,28 @@
-//! Cases of coding, from the field's products up to rebuilding: worked examples, the shares of another library, a
-//! search through all codewords, stripes beside the plain decoding of their columns, verdicts, bad pieces, and windows
-//! beside the whole. They stand here, so that `gf256`, `gf_linear`, `rs_stripe`, `bw_decode`, `audit_core` and
-//! `repair_core` are proved once and not again with their tests.
+//! Cases of coding and of what plans ask of nodes, from the field's products up to a repair's end: worked examples, the
+//! shares of another library, a search through all codewords, stripes beside the plain decoding of their columns, verdicts,
+//! bad pieces, windows beside the whole, and nodes in memory that are honest, altered, missing or silent. They stand here, so
+//! that `gf256`, `gf_linear`, `rs_stripe`, `bw_decode`, `audit_core`, `repair_core` and `node_asks` are proved once and not
+//! again with their tests.
 #![tactic(auto)]
 
+#[cfg(test)]
+mod asked_audits;
+#[cfg(test)]
+mod asked_repairs;
 #[cfg(test)]
 mod columns;
 #[cfg(test)]
 mod encoding;
 #[cfg(test)]
+mod endings;
+#[cfg(test)]
 mod errors;
 #[cfg(test)]
 mod field;
 #[cfg(test)]
-mod indexes;
-#[cfg(test)]
 mod judging;
+#[cfg(test)]
+mod places;
 #[cfg(test)]
 mod plain;
 #[cfg(test)]
@@ -24,6 +31,8 @@ mod random;
 mod repairs;
 #[cfg(test)]
 mod schemes;
+#[cfg(test)]
+mod spreads;
 #[cfg(test)]
 mod stripes;
 #[cfg(test)]

@@ -3,7 +3,6 @@ ghost use Rattle.std.specs.Prelude.{◌≡◌, ◌≤◌, ◌<◌, ◌*◌, leng
 ghost use Rattle.bw_decode.specs.Altered.{indexes_of};
 ghost use Rattle.bw_decode.specs.Near.{Rises};
 
-use crate::indexes::{are_rising, indexes_in};
 use crate::plain::decode_columns;
 use crate::random::Random;
 use crate::schemes::scheme;
@@ -13,6 +12,7 @@ use rs_stripe::encode_share;
 use sat_base::{Bytes, NoMemory, Scheme, Share};
 use std::alloc::Global;
 use std::process::Abort;
+use trial_indexes::{are_rising, indexes_in};
 
 // How many of 256 answers are given, are altered, and of these, have another length.
 #[derive(Clone, Copy)]

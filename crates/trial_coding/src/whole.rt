@@ -1,5 +1,4 @@
 // Segments that are rebuilt whole.
-use crate::indexes::{are_in_order, are_rising};
 use crate::repairs::{NONE, Pieces, plan, shares};
 use crate::schemes::scheme;
 use bw_decode::Scratch;
@@ -7,6 +6,7 @@ use repair_core::{RebuildErr, Rebuilt, rebuild};
 use sat_base::{NoMemory, Scheme, Share};
 use std::alloc::Global;
 use std::process::Abort;
+use trial_indexes::{are_in_order, are_rising};
 
 /// Rebuilds a segment of `len` bytes for these targets.
 pub fn whole(

@@ -3,7 +3,6 @@ ghost use Rattle.std.specs.Prelude.{◌≡◌, ◌≤◌, ◌^◌, IfOk};
 ghost use Rattle.sat_base.specs.Scheme.{stripe_count};
 ghost use Rattle.repair_core.specs.Kept.{IsKept};
 
-use crate::indexes::{are_among, are_rising, indexes_in};
 use crate::repairs::{NONE, Pieces, plan, shares};
 use crate::schemes::scheme;
 use bw_decode::Scratch;
@@ -11,6 +10,7 @@ use repair_core::{Rebuilder, Remade, WindowErr};
 use sat_base::{NoMemory, Scheme, Share};
 use std::alloc::Global;
 use std::process::Abort;
+use trial_indexes::{are_among, are_rising, indexes_in};
 
 /// What the windows of a rebuilding have in common.
 #[derive(Drop)]

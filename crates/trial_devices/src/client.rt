@@ -10,6 +10,9 @@ use std::time::Duration;
 // How many seconds a client waits for an answer before it gives up.
 const PATIENCE: u64 = 20;
 
+/// A whole request.
+pub const REQUEST: &[u8; 18] = b"GET / HTTP/1.1\r\n\r\n";
+
 /// The address of a port of this machine.
 pub fn address(port: u16) -> SocketAddr {
     SocketAddr::V4(SocketAddrV4::new(Ipv4Addr::LOCALHOST, port))

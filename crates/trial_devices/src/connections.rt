@@ -1,8 +1,9 @@
 // Connections that are answered.
-use crate::client::{connected, hear, next_of, say, send};
+use crate::client::{REQUEST, connected, hear, next_of, say, send};
 use anyhow::{Result, bail};
 use sat_base::{Came, Given, Lane, Sink, Source, Taken};
 use sat_devices::{TcpLane, TcpLink};
+use std::net::{Ipv4Addr, Net, SocketAddr, SocketAddrV4};
 use std::thread;
 use std::thread::Threads;
 use std::time::{Duration, Instant};
@@ -48,6 +49,17 @@ pub fn closed(rt: &HostRuntime) -> Result<()> {
     Ok(())
 }
 
+/// A lane is at 127.0.0.1 and at no other address of the machine.
+pub fn loopback(rt: &HostRuntime) -> Result<()> {
+    let lane = TcpLane::listen(*rt, 0)?;
+    let other = SocketAddr::V4(SocketAddrV4::new(Ipv4Addr::new(127, 0, 0, 2), lane.port()));
+    match rt.connect(other) {
+        Ok(_) => bail!("it is at 127.0.0.2, too"),
+        Err(e) => println!(rt; "loopback: {:?}", e.kind())?,
+    }
+    Ok(())
+}
+
 /// A port that another lane has.
 pub fn taken_port(rt: &HostRuntime) -> Result<()> {
     let lane = TcpLane::listen(*rt, 0)?;
@@ -73,10 +85,10 @@ fn serve(mut lane: TcpLane<HostRuntime>) -> u32 {
     answered
 }
 
-// Whether a question came and an answer was written.
+// Whether a request came and an answer was written.
 fn answers(link: &mut TcpLink<HostRuntime>) -> bool {
     let mut buf = [0u8; 64];
-    link.read(&mut buf) == Taken::Count(8) && link.put(b"answer") == Given::Count(6)
+    link.read(&mut buf) == Taken::Count(18) && link.put(b"answer") == Given::Count(6)
 }
 
 /// A lane in a thread, before clients one after another that stay until they hear the end. They aren't waited for.
@@ -90,7 +102,7 @@ pub fn in_a_thread(rt: &HostRuntime, threads: &impl Threads) -> Result<()> {
     let start = Instant::now(rt)?;
     for _ in 0..SERVED {
         let client = connected(rt, port)?;
-        send(&client, b"question")?;
+        send(&client, REQUEST)?;
         if hear(rt.alloc(), &client)?.as_slice() == b"answer".as_slice() {
             told = told.saturating_add(1);
         }

@@ -1,10 +1,8 @@
 // How connections end.
-use crate::client::{address, connected, hear, next_of, say, send};
-use crate::scripted::Scripted;
+use crate::client::{REQUEST, connected, hear, next_of, say, send};
 use anyhow::Result;
-use sat_base::{Came, Lane, Sink, Source};
-use sat_devices::{TcpLane, TcpLink};
-use std::net::{Net, TcpListener};
+use sat_base::{Lane, Sink, Source};
+use sat_devices::TcpLane;
 use std::time::{Duration, Instant};
 
 /// Bytes of the client that nobody read don't lose the answer.
@@ -25,7 +23,7 @@ pub fn unread(rt: &HostRuntime) -> Result<()> {
 pub fn stays(rt: &HostRuntime) -> Result<()> {
     let mut lane = TcpLane::listen(*rt, 0)?;
     let client = connected(rt, lane.port())?;
-    send(&client, b"question")?;
+    send(&client, REQUEST)?;
     let mut link = next_of(&mut lane)?;
     let read = link.read(&mut [0u8; 64]);
     let put = link.put(b"answer");
@@ -41,54 +39,20 @@ pub fn stays(rt: &HostRuntime) -> Result<()> {
 pub fn reset(rt: &HostRuntime) -> Result<()> {
     let mut lane = TcpLane::listen(*rt, 0)?;
     let client = connected(rt, lane.port())?;
+    send(&client, REQUEST)?;
     let mut link = next_of(&mut lane)?;
+    let read = link.read(&mut [0u8; 64]);
     let put = link.put(b"answer");
     // So the answer has come when the client goes.
     client.peek(&mut [0u8; 1])?;
     drop(client);
-    let read = link.read(&mut [0u8; 64]);
+    let behind = link.read(&mut [0u8; 64]);
     let more = link.put(b"more");
     println!(rt;
-        "reset: {put:?}, {read:?} {}, {more:?} {}",
+        "reset: {read:?}, {put:?}, {behind:?} {}, {more:?} {}",
         link.read_faults(),
         link.write_faults()
     )?;
     lane.back(link);
-    Ok(())
-}
-
-/// Reads and writes whose time is up.
-pub fn late(rt: &HostRuntime) -> Result<()> {
-    let listener = rt.bind(address(0))?;
-    let client = connected(rt, listener.local_addr()?.port())?;
-    let (stream, _) = listener.accept()?;
-    let machine = Scripted::new();
-    let mut link = TcpLink::new(&machine, stream);
-    let mut buf = [0u8; 64];
-    machine.set(29);
-    let start = Instant::now(rt)?;
-    let silent = link.read(&mut buf);
-    let waited = start.elapsed(rt)? >= Duration::from_millis(900);
-    machine.set(30);
-    let late = link.read(&mut buf);
-    let put = link.put(b"answer");
-    machine.set(60);
-    let last = link.put(b"more");
-    machine.fail();
-    let blind = link.read(&mut buf);
-    println!(rt; "late: {silent:?} {waited}, {late:?}, {put:?}, {last:?}, {blind:?}")?;
-    println!(rt; "late: {} {}", link.read_faults(), link.write_faults())?;
-    drop(client);
-    Ok(())
-}
-
-/// Waits for a connection that fail.
-pub fn failed_wait(rt: &HostRuntime) -> Result<()> {
-    let listener: TcpListener = rt.bind(address(0))?;
-    listener.set_nonblocking(true)?;
-    let mut lane = TcpLane::of(*rt, listener)?;
-    let first = matches!(lane.next(), Came::Failed);
-    let second = matches!(lane.next(), Came::Failed);
-    println!(rt; "failed wait: {first} {second}, {}", lane.faults())?;
     Ok(())
 }

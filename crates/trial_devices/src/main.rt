@@ -1,12 +1,13 @@
 //! The real devices, tried over the system: connections on loopback, random words, the clock and ticks.
 //!
 //! Each case is a line of the output, which says what a device answered. The cases are its stored output, the same at
-//! every run. The ports are those that the system picks, and the program takes some three seconds.
+//! every run. The ports are those that the system picks, and the program takes some fifteen seconds.
 //!
 //! - `console`: a reader and a writer that are interrupted and fail.
-//! - `connections`: an exchange, clients that close, a taken port, a lane in a thread.
-//! - `endings`: unread bytes, a client that stays, one that resets, time that is up, waits that fail.
-//! - `machine`: words, moments and ticks of the system, and of one that fails when it is told to.
+//! - `connections`: an exchange, clients that close, addresses, a taken port, a lane in a thread.
+//! - `endings`: unread bytes, a client that stays, one that resets.
+//! - `crowds`: silent clients, many requests at once, an answer that isn't read.
+//! - `machine`: words, moments and ticks of the system, and of one that fails or jumps when it is told to.
 //!
 //! Nothing is promised beyond `sat_devices`' contract.
 #![tactic(auto)]
@@ -14,6 +15,7 @@
 mod client;
 mod connections;
 mod console;
+mod crowds;
 mod endings;
 mod machine;
 mod scripted;
@@ -23,15 +25,18 @@ use anyhow::Result;
 fn main(rt: HostRuntime) -> Result<()> {
     connections::exchange(&rt)?;
     connections::closed(&rt)?;
+    connections::loopback(&rt)?;
     connections::taken_port(&rt)?;
     connections::in_a_thread(&rt, &rt)?;
     endings::unread(&rt)?;
     endings::stays(&rt)?;
     endings::reset(&rt)?;
-    endings::late(&rt)?;
-    endings::failed_wait(&rt)?;
+    crowds::silence(&rt, &rt)?;
+    crowds::burst(&rt, &rt)?;
+    crowds::unread_answer(&rt, &rt)?;
     machine::words(&rt)?;
     machine::moments(&rt)?;
+    machine::jumps(&rt)?;
     machine::ticks(&rt)?;
     console::faulty(&rt)
 }

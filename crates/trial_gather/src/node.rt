@@ -76,6 +76,33 @@ pub fn serve(listener: &TcpListener, body: usize, manner: Manner, text: &[u8]) -
     }
 }
 
+/// A check sum of bytes, behind those that it has.
+pub fn sum_behind(sum: u64, bytes: &[u8]) -> u64 {
+    bytes.iter().fold(sum, |sum, byte| {
+        sum.wrapping_mul(31).wrapping_add(u64::from(*byte))
+    })
+}
+
+/// Takes a request with a body of so many bytes, and answers that it is kept. It gives the check sum of the body.
+pub fn keep(listener: &TcpListener, body: usize) -> io::Result<u64> {
+    let (mut socket, _) = listener.accept()?;
+    read_request(&mut socket, 0)?;
+    let mut piece = [0u8; MOST];
+    let mut sum = 0u64;
+    let mut left = body;
+    for _ in 0..=body {
+        if left == 0 {
+            break;
+        }
+        let part = &mut piece[..left.min(MOST)];
+        socket.read_exact(part)?;
+        sum = sum_behind(sum, part);
+        left = left.saturating_sub(MOST);
+    }
+    socket.write_all(b"HTTP/1.1 200 OK\r\n\r\n")?;
+    Ok(sum)
+}
+
 /// Serves one connection. Sets a mark once the request was read, and answers once the other mark is set. True if it was.
 pub fn follow(
     listener: &TcpListener,

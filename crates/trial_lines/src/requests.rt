@@ -1,88 +1,187 @@
-// What was asked by a kept request, and what was done.
-use crate::{Fields, LineErr};
-use sat_base::{Asked, CustomerId, Done, Items, Moment, NodeId, Offer, Place, SegId, Serial};
+// Requests, one a line: the name, the moment, and then the fields in their order.
+ghost use Rattle.std.specs.Prelude.{◌≡◌, length, IfOk};
+ghost use Rattle.machine_step.specs.Step.{IsAsked};
+
+use crate::fields::{Fields, LineErr};
+use crate::months::on_months;
+use crate::orders::order;
+use machine_calls::{Call, are_bytes};
+use order_limits::Keys;
+use sat_base::{CustomerId, Items, Moment, NodeId, SegId, Words64};
 use std::alloc::Global;
 
-/// The name of a request and what it asked for, but for its moment and words.
-pub fn asked(alloc: Global, fields: &mut Fields<'_>) -> Result<Asked, LineErr> {
-    match fields.word()? {
-        "add-node" => Ok(Asked::Node {
-            addr: fields.number()?,
-            port: fields.number()?,
-            free: fields.number()?,
-        }),
-        "add-customer" => Ok(Asked::Customer),
-        "begin" => Ok(Asked::Begin {
-            len: fields.number()?,
-        }),
-        "commit" => Ok(Asked::Commit {
-            segment: SegId(fields.number()?),
-            indexes: Items::of(fields.numbers(alloc)?),
-        }),
-        "get" => Ok(Asked::Get {
-            segment: SegId(fields.number()?),
-        }),
-        "delete" => Ok(Asked::Delete {
-            segment: SegId(fields.number()?),
-        }),
-        _ => Err(LineErr::Bad),
+// The request that a line says. Orders are made with the store's keys.
+pub(crate) fn request(alloc: Global, keys: &Keys, fields: &mut Fields<'_>) -> Result<Call, LineErr>
+    ensures { IfOk result IsAsked }
+{
+    let call = first_request(alloc, keys, fields)?;
+    whole(fields, call)
+}
+
+// What was read of a line, unless more of it is left.
+fn whole<T: Drop>(fields: &Fields<'_>, read: T) -> Result<T, LineErr>
+    ensures { IfOk result (λ same. same ≡ read) }
+{
+    match fields.end() {
+        Ok(()) => Ok(read),
+        Err(e) => Err(e),
     }
 }
 
-/// What was done, as replies say it.
-pub fn done(alloc: Global, fields: &mut Fields<'_>) -> Result<Done, LineErr> {
+// The request that the next words say.
+fn first_request(alloc: Global, keys: &Keys, fields: &mut Fields<'_>) -> Result<Call, LineErr>
+    ensures { IfOk result IsAsked }
+{
     match fields.word()? {
-        "node" => Ok(Done::NodeAdded {
-            node: NodeId(fields.number()?),
-        }),
-        "customer" => Ok(Done::CustomerAdded {
-            customer: CustomerId(fields.number()?),
-        }),
-        "offer" => Ok(Done::Offer(offer(alloc, fields)?)),
-        "committed" => Ok(Done::Committed {
-            segment: SegId(fields.number()?),
-        }),
-        "deleted" => Ok(Done::Deleted {
-            segment: SegId(fields.number()?),
-        }),
-        _ => Err(LineErr::Bad),
+        "add-node" => add_node(fields),
+        "add-customer" => add_customer(fields),
+        "begin" => begin(alloc, fields),
+        "commit" => commit(alloc, fields),
+        "get" => get(fields),
+        "delete" => delete(fields),
+        "settle" => settle(alloc, keys, fields),
+        "set-free" => set_free(fields),
+        "exit" => exit(fields),
+        "stop" => Ok(Call::Stop),
+        word => on_months(word, fields),
     }
 }
 
-// CUSTOMER SEGMENT SERIAL ACTION PIECE-LEN ISSUED PLACES.
-fn offer(alloc: Global, fields: &mut Fields<'_>) -> Result<Offer, LineErr> {
-    Ok(Offer {
-        customer: CustomerId(fields.number()?),
-        segment: SegId(fields.number()?),
-        serial: Serial(fields.number()?),
-        action: fields.number()?,
-        piece_len: fields.number()?,
-        issued: Moment::of(fields.number()?),
-        places: Items::of(places(alloc, fields)?),
+pub(crate) fn moment(fields: &mut Fields<'_>) -> Result<Moment, LineErr> {
+    Ok(Moment::of(fields.number()?))
+}
+
+// NOW REQUEST ADDR PORT FREE.
+fn add_node(fields: &mut Fields<'_>) -> Result<Call, LineErr>
+    ensures { IfOk result IsAsked }
+{
+    Ok(Call::AddNode {
+        now: moment(fields)?,
+        request: fields.number()?,
+        addr: fields.number()?,
+        port: fields.number()?,
+        free: fields.number()?,
     })
 }
 
-// Each is INDEX:NODE:ADDR:PORT.
-fn places(alloc: Global, fields: &mut Fields<'_>) -> Result<Vec<Place>, LineErr> {
-    let mut list = fields.list()?;
-    let mut places = Vec::new(alloc);
-    for _ in 0..u64::MAX {
-        if list.is_done() {
-            break;
-        }
-        places.push(place(&mut list)?)?;
-    }
-    Ok(places)
+// NOW REQUEST.
+fn add_customer(fields: &mut Fields<'_>) -> Result<Call, LineErr>
+    ensures { IfOk result IsAsked }
+{
+    Ok(Call::AddCustomer {
+        now: moment(fields)?,
+        request: fields.number()?,
+    })
 }
 
-fn place(fields: &mut Fields<'_>) -> Result<Place, LineErr> {
-    let mut parts = fields.parts()?;
-    let place = Place {
-        index: parts.number()?,
-        node: NodeId(parts.number()?),
-        addr: parts.number()?,
-        port: parts.number()?,
-    };
-    parts.end()?;
-    Ok(place)
+// NOW CUSTOMER REQUEST LEN WORDS.
+fn begin(alloc: Global, fields: &mut Fields<'_>) -> Result<Call, LineErr>
+    ensures { IfOk result IsAsked }
+{
+    Ok(Call::Begin {
+        now: moment(fields)?,
+        customer: CustomerId(fields.number()?),
+        request: fields.number()?,
+        len: fields.number()?,
+        words: words(alloc, 128, fields)?,
+    })
+}
+
+// So many words, by a generator from a start, `from START`, or as a list of numbers that come round again.
+pub(crate) fn words(
+    alloc: Global,
+    count: usize,
+    fields: &mut Fields<'_>,
+) -> Result<Words64, LineErr>
+    ensures { IfOk result (λ words. length words ≡ count) }
+{
+    let mut words = vec![in alloc; 0u64; count]?;
+    let mut list = *fields;
+    if fields.word()? == "from" {
+        let mut state: u64 = fields.number()?;
+        for word in words.as_mut_slice() {
+            state = state
+                .wrapping_mul(6_364_136_223_846_793_005)
+                .wrapping_add(1_442_695_040_888_963_407);
+            *word = state ^ (state >> 33);
+        }
+    } else {
+        let numbers = list.numbers(alloc)?;
+        if numbers.is_empty() {
+            return Err(LineErr::Bad);
+        }
+        for (word, number) in words.as_mut_slice().iter_mut().zip(numbers.iter().cycle()) {
+            *word = *number;
+        }
+    }
+    Ok(Items::of(words))
+}
+
+// NOW CUSTOMER REQUEST SEGMENT INDEXES.
+fn commit(alloc: Global, fields: &mut Fields<'_>) -> Result<Call, LineErr>
+    ensures { IfOk result IsAsked }
+{
+    Ok(Call::Commit {
+        now: moment(fields)?,
+        customer: CustomerId(fields.number()?),
+        request: fields.number()?,
+        segment: SegId(fields.number()?),
+        indexes: Items::of(fields.numbers(alloc)?),
+    })
+}
+
+// NOW CUSTOMER REQUEST SEGMENT.
+fn get(fields: &mut Fields<'_>) -> Result<Call, LineErr>
+    ensures { IfOk result IsAsked }
+{
+    Ok(Call::Get {
+        now: moment(fields)?,
+        customer: CustomerId(fields.number()?),
+        request: fields.number()?,
+        segment: SegId(fields.number()?),
+    })
+}
+
+// NOW CUSTOMER REQUEST SEGMENT.
+fn delete(fields: &mut Fields<'_>) -> Result<Call, LineErr>
+    ensures { IfOk result IsAsked }
+{
+    Ok(Call::Delete {
+        now: moment(fields)?,
+        customer: CustomerId(fields.number()?),
+        request: fields.number()?,
+        segment: SegId(fields.number()?),
+    })
+}
+
+// NOW NODE ORDER.
+fn settle(alloc: Global, keys: &Keys, fields: &mut Fields<'_>) -> Result<Call, LineErr>
+    ensures { IfOk result IsAsked }
+{
+    let now = moment(fields)?;
+    let node = NodeId(fields.number()?);
+    let bytes = Items::of(order(alloc, keys, fields)?);
+    are_bytes(bytes.as_slice());
+    Ok(Call::Settle { now, node, bytes })
+}
+
+// NOW NODE FREE.
+fn set_free(fields: &mut Fields<'_>) -> Result<Call, LineErr>
+    ensures { IfOk result IsAsked }
+{
+    Ok(Call::SetFree {
+        now: moment(fields)?,
+        node: NodeId(fields.number()?),
+        free: fields.number()?,
+    })
+}
+
+// NOW NODE.
+fn exit(fields: &mut Fields<'_>) -> Result<Call, LineErr>
+    ensures { IfOk result IsAsked }
+{
+    Ok(Call::Exit {
+        now: moment(fields)?,
+        node: NodeId(fields.number()?),
+    })
 }

@@ -1,7 +1,8 @@
 //! Whole runs of the top call over devices in memory, tried by lines. Each line of the input is answered by one of the
 //! output, but `run`, `race` and `rows`.
 //!
-//! - `store` begins with an empty keeper and no lanes. `row KIND ID BODY` puts a row into the keeper, in hexadecimal digits.
+//! - `store NAME` begins with an empty keeper and no lanes. The rows that the keeper has follow, as for `trial_cases`: `row`, a
+//!   record, `like`, `without` and so on.
 //! - `fail keeper NUMBERS` and `fail console NUMBERS` say which of their calls are to fail in the next run, from 1.
 //!   `input TEXT` is what the console has to read.
 //! - `lane NUMBERS` adds a lane, whose waits of these numbers fail. `link NUMBERS TEXT` adds a connection to it with this
@@ -43,10 +44,11 @@ use std::io::{BufWriter, Write};
 fn main(rt: HostRuntime) -> Result<()> {
     let alloc = rt.alloc();
     let input = io::read_to_string(alloc, rt.reader())?;
+    let lines: Vec<&str> = input.lines().collect(alloc)?;
     let mut stage = Stage::new(alloc);
     let mut output = BufWriter::new(alloc, io::writer(&rt))?;
-    for line in input.lines() {
-        let answer = stage.answer(&rt, line)?;
+    for line in &lines {
+        let answer = stage.answer(&rt, &lines, line)?;
         writeln!(output, "{answer}")?;
     }
     output.flush()?;

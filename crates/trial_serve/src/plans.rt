@@ -1,9 +1,6 @@
 // What devices in memory are made of.
 use crate::lane::TrialLane;
-use sat_base::{
-    Change, Committed, HoldGate, Keeper, KeeperMem, Loaded, MemClock, MemConsole, MemLink,
-    MemNodes, MemTicks, MemWords, NoMemory, Row,
-};
+use sat_base::{HoldGate, KeeperMem, MemClock, MemConsole, MemLink, MemNodes, MemTicks, MemWords};
 use satellite_cli::{Post, World};
 use std::alloc::Global;
 use trial_lines::{LineErr, bytes_of};
@@ -107,21 +104,5 @@ pub fn post(alloc: Global, plan: LanePlan) -> MemPost {
         lane: TrialLane::of(alloc, links, failing),
         clock: MemClock::of(moments),
         words: MemWords::of(words, draws),
-    }
-}
-
-/// A keeper of these rows, whose calls of these numbers fail.
-pub fn keeper_of(alloc: Global, rows: Vec<Row>, failing: Vec<u64>) -> Result<KeeperMem, NoMemory> {
-    let mut changes = Vec::new(alloc);
-    for row in rows {
-        changes.push(Change::Put(row))?;
-    }
-    let mut all = KeeperMem::of(Vec::new(alloc), Vec::new(alloc));
-    if all.commit(alloc, &changes) != Committed::Done {
-        return Err(NoMemory);
-    }
-    match all.load(alloc) {
-        Loaded::Rows(rows) => Ok(KeeperMem::of(rows.into_vec(), failing)),
-        Loaded::Fault | Loaded::NoMemory => Err(NoMemory),
     }
 }

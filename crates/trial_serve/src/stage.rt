@@ -1,15 +1,15 @@
 // The devices of the next run.
 use crate::ended::MemEnded;
-use crate::plans::{LanePlan, MemWorld, Source, keeper_of, post};
+use crate::plans::{LanePlan, MemWorld, Source, post};
 use crate::running::{line_of, point};
 use crate::workers::{Worker, Workers};
-use sat_base::{HoldGate, KeeperMem, MemConsole, NoMemory, Point, Row};
+use sat_base::{HoldGate, KeeperMem, MemConsole, NoMemory, Point};
 use satellite_cli::World;
 use std::alloc::Global;
 use std::mem;
 use std::sync::Wait;
 use std::thread::Threads;
-use trial_lines::{Fields, LineErr, bytes_of, row, told_row};
+use trial_lines::{Fields, LineErr, Store, bytes_of, keeper_of, told_rows};
 
 // A point to which nobody comes.
 const NOWHERE: Point = Point::SessionRead { lane: u16::MAX };
@@ -18,7 +18,7 @@ const NOWHERE: Point = Point::SessionRead { lane: u16::MAX };
 #[derive(Drop)]
 pub struct Stage {
     alloc: Global,
-    rows: Vec<Row>,
+    store: Store,
     input: Vec<u8>,
     keeper_failing: Vec<u64>,
     console_failing: Vec<u64>,
@@ -41,7 +41,7 @@ impl Stage {
     pub fn new(alloc: Global) -> Self {
         Stage {
             alloc,
-            rows: Vec::new(alloc),
+            store: Store::new(alloc),
             input: Vec::new(alloc),
             keeper_failing: Vec::new(alloc),
             console_failing: Vec::new(alloc),
@@ -57,19 +57,25 @@ impl Stage {
     pub fn answer<R: Threads + Wait + Sync>(
         &mut self,
         rt: &R,
+        lines: &[&str],
         line: &str,
     ) -> Result<String, NoMemory> {
         if line.is_empty() || line.starts_with('#') {
             return Ok(String::from_str(self.alloc, line)?);
         }
-        match self.taken(rt, line) {
+        match self.taken(rt, lines, line) {
             Ok(answer) => Ok(answer),
             Err(LineErr::Bad) => Ok(String::from_str(self.alloc, "bad-line")?),
             Err(LineErr::NoMemory) => Err(NoMemory),
         }
     }
 
-    fn taken<R: Threads + Wait + Sync>(&mut self, rt: &R, line: &str) -> Result<String, LineErr> {
+    fn taken<R: Threads + Wait + Sync>(
+        &mut self,
+        rt: &R,
+        lines: &[&str],
+        line: &str,
+    ) -> Result<String, LineErr> {
         let mut fields = Fields::of_line(line, 0);
         match fields.word()? {
             "run" => self.run(rt, fields.rest(), true),
@@ -78,24 +84,25 @@ impl Stage {
                 fields.end()?;
                 self.told_rows()
             }
+            "store" => {
+                *self = Stage::new(self.alloc);
+                Ok(String::from_str(self.alloc, line)?)
+            }
             word => {
-                self.note(word, fields)?;
+                self.note(lines, line, word, fields)?;
                 Ok(String::from_str(self.alloc, "noted")?)
             }
         }
     }
 
-    fn note(&mut self, word: &str, mut fields: Fields<'_>) -> Result<(), LineErr> {
+    fn note(
+        &mut self,
+        lines: &[&str],
+        line: &str,
+        word: &str,
+        mut fields: Fields<'_>,
+    ) -> Result<(), LineErr> {
         match word {
-            "store" => {
-                fields.end()?;
-                *self = Stage::new(self.alloc);
-                Ok(())
-            }
-            "row" => {
-                let row = row(self.alloc, &mut fields)?;
-                Ok(self.rows.push(row)?)
-            }
             "input" => {
                 self.input = bytes_of(self.alloc, fields.rest())?;
                 Ok(())
@@ -119,7 +126,7 @@ impl Stage {
                 self.until = point(fields.word()?)?;
                 fields.end()
             }
-            _ => Err(LineErr::Bad),
+            _ => self.store.note(lines, line),
         }
     }
 
@@ -132,20 +139,6 @@ impl Stage {
                 None => Err(LineErr::Bad),
             },
         }
-    }
-
-    // Takes the rows of a keeper.
-    fn keep(&mut self, keeper: KeeperMem) -> Result<(), LineErr> {
-        let mut rows = Vec::new(self.alloc);
-        for row in keeper.rows() {
-            rows.push(Row {
-                kind: row.kind,
-                id: row.id.copy(self.alloc)?,
-                body: row.body.copy(self.alloc)?,
-            })?;
-        }
-        self.rows = rows;
-        Ok(())
     }
 
     fn fail(&mut self, fields: &mut Fields<'_>) -> Result<(), LineErr> {
@@ -201,7 +194,7 @@ impl Stage {
         let alloc = self.alloc;
         let Stage {
             alloc: _,
-            rows,
+            store,
             input,
             keeper_failing,
             console_failing,
@@ -222,7 +215,7 @@ impl Stage {
         }
         Ok(World {
             console: MemConsole::of(alloc, input, console_failing),
-            keeper: keeper_of(alloc, rows, keeper_failing)?,
+            keeper: keeper_of(alloc, store.changes(), keeper_failing)?,
             posts,
             audit: audit.kit(alloc),
             repair: repair.kit(alloc),
@@ -242,17 +235,12 @@ impl Stage {
         let world = self.world()?;
         let ended = MemEnded::of(rt, self.alloc, &line, world)?;
         let text = ended.told(self.alloc, places)?;
-        self.keep(ended.into_keeper(self.alloc))?;
+        self.store.keep(ended.into_keeper(self.alloc).rows())?;
         Ok(text)
     }
 
     fn told_rows(&self) -> Result<String, LineErr> {
-        let count = self.rows.len();
-        let mut text = format!(in self.alloc; "rows {count}")?;
-        for row in &self.rows {
-            text.push_str("\n")?;
-            text.push_str(&told_row(self.alloc, row)?)?;
-        }
-        Ok(text)
+        let keeper = keeper_of(self.alloc, self.store.changes(), Vec::new(self.alloc))?;
+        Ok(told_rows(self.alloc, keeper.rows())?)
     }
 }

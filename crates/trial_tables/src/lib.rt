@@ -1,5 +1,6 @@
-//! Cases of orders, of the tables, of placement and of pay: worked examples, rows that come in any order, and a plain
-//! placement to compare with. They stand here, so that the crates below are proved once and not again with their tests.
+//! Cases of the ground, of orders, of the tables, of placement and of pay: months at their borders, schemes, numbers in
+//! digits, what the outside's forms in memory answer, worked examples, rows that come in any order, and a plain placement to
+//! compare with. They stand here, so that the crates below are proved once and not again with their tests.
 #![tactic(auto)]
 
 #[cfg(test)]
@@ -9,13 +10,21 @@ mod closings;
 #[cfg(test)]
 mod commits;
 #[cfg(test)]
+mod consoles;
+#[cfg(test)]
 mod index;
+#[cfg(test)]
+mod keepers;
 #[cfg(test)]
 mod mixed_rows;
 #[cfg(test)]
 mod nodes;
 #[cfg(test)]
+mod numbers;
+#[cfg(test)]
 mod orders;
+#[cfg(test)]
+mod outside;
 #[cfg(test)]
 mod placing;
 #[cfg(test)]

@@ -1,5 +1,0 @@
-use Rattle.std.proofs.Common.{◌≡◌}
-use Rattle.bench_decode.proofs.decoding.decode_rounds.Given as goal
-
-abbrev pub invariant-loop : goal.invariant-loop
-invariant-loop l = l.scratch.points ≡ l.initial.scratch.points

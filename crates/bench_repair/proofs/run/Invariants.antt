@@ -1,9 +1,0 @@
-use Rattle.std.proofs.Common.{◌≡◌}
-use Rattle.repair_core.specs.Kept.{IsKept}
-use Rattle.bench_repair.proofs.run.Given as goal
-
-abbrev pub invariant-windows : goal.invariant-windows
-invariant-windows g l = record {
-  kept : IsKept l.repair.scheme.k l.repair.scheme.share l.repair.scheme.n l.repair.count l.repair.sources.now l.rebuilder;
-  points : l.scratch.points ≡ l.initial.scratch.points;
-}

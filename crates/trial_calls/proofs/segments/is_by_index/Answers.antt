@@ -1,5 +1,0 @@
-use Rattle.trial_calls.proofs.Rising.{rise_more}
-use Rattle.trial_calls.proofs.segments.is_by_index.Goals as goal
-
-pub loop-i-preserved : goal.loop-i-preserved
-loop-i-preserved c = rise_more c.args.pieces.now c.loop-i.i c.loop-i.invariant (c.is_above.ensures c.if-not-is_above.false)

@@ -1,0 +1,6 @@
+use Rattle.std.proofs.Common.{◌≡◌, ℕ, ◌<◌, false, slice_index_or}
+use Rattle.repair_core.specs.Indexes.{has_index}
+use Rattle.trial_indexes.proofs.are_apart.Given as goal
+
+abbrev pub invariant-loop-index : goal.invariant-loop-index
+invariant-loop-index l = (k d : ℕ) → k < l.index-index → has_index l.others (slice_index_or l.indexes k d) ≡ false
