@@ -11,6 +11,7 @@ made and removed while it runs:
     FOLDER/i/silent     it doesn't answer
     FOLDER/i/altered    it answers with other bytes, as many
     FOLDER/i/lost       it has lost every piece
+    FOLDER/i/slow       it waits so many seconds, as the file says, before it answers with bytes
 
 Each request is told on standard output: the node, the method, the piece and what it was answered.
 """
@@ -22,6 +23,7 @@ import pathlib
 import re
 import sys
 import threading
+import time
 
 PIECE = re.compile(r"^/piece/(\d+)/(\d+)$")
 GET_AUDIT, GET_REPAIR, PUT, PUT_REPAIR, GET = 3, 4, 1, 5, 2
@@ -41,6 +43,9 @@ class Storage:
     def does(self, what):
         return (self.folder / what).exists()
 
+    def slowness(self):
+        return float((self.folder / "slow").read_text()) if self.does("slow") else 0
+
     def path(self, segment, index):
         return self.folder / f"{segment}-{index}"
 
@@ -57,7 +62,8 @@ class Handler(http.server.BaseHTTPRequestHandler):
         pass
 
     def told(self, status, what):
-        print(self.server.storage.number, self.command, self.path, status, what, flush=True)
+        # (one string, so that lines of several nodes don't meet)
+        print(f"{self.server.storage.number} {self.command} {self.path} {status} {what}\n", end="", flush=True)
 
     def say(self, status, body=b"", what=""):
         self.told(status, what)
@@ -92,9 +98,10 @@ class Handler(http.server.BaseHTTPRequestHandler):
         offset, length = int(self.headers.get("x-offset", "0")), int(self.headers.get("x-length", "-1"))
         piece = path.read_bytes()
         share = piece[offset:] if length < 0 else piece[offset : offset + length]
+        time.sleep(storage.slowness())
         if storage.does("altered"):
-            return self.say(200, bytes(byte ^ 1 for byte in share), "altered")
-        self.say(200, share, "kept")
+            return self.say(200, bytes(byte ^ 1 for byte in share), f"{len(share)} bytes altered")
+        self.say(200, share, f"{len(share)} bytes")
 
     def do_PUT(self):
         asked = self.asked((PUT, PUT_REPAIR))

@@ -74,6 +74,10 @@ impl Keeper for DroppingKeeper {
         Committed::Done
     }
 
+    fn is_shut(&mut self) -> bool {
+        false
+    }
+
     fn count(&self) -> u64 {
         0
     }

@@ -18,44 +18,46 @@ use Rattle.node_wire.specs.Readings.{ComesTo, IsAbout}
 use Rattle.node_wire.proofs.AnswerLemmas.{fetched_heard, heard_short}
 use Rattle.gather.specs.declared.asking.Asking.{Asking}
 use Rattle.gather.specs.declared.asking.Step.{Step}
+use Rattle.gather.specs.declared.timed.Timed.{Timed}
 use Rattle.gather.specs.Asks.{CanAsk, MayCome}
 use Rattle.gather.specs.Counting.{HeardAll}
 use Rattle.gather.specs.Gathered.{GivesEach}
-use Rattle.gather.specs.Rounds.{CanHear, Comes, FetchComes, FetchesFor, Heard, MayHear, Starts, TakenAs}
+use Rattle.gather.specs.Rounds.{CanHear, Comes, FetchComes, FetchesFor, HeardAt, MayHear, Starts, TakenFrom}
 use Rattle.gather.proofs.Zips.{zip_so, zip_through, zip_gives, zip_all}
 
 about_can : (question : Question) (inner : Option (Step × Reading)) → IsSomeAnd inner (λ i. IsAbout question i.1) → CanAsk inner
 about_can question None h = absurd h
 about_can question (Some i) h = h.0
 
--- an ask that was begun may be polled
-pub starts_can : (question : Question) (t : Timeout Asking) → Starts question t → CanHear t
-starts_can question t h = about_can question (timeout_future t).inner h
-
-pub fetches_can : (asked : List Ask) (parts : List (Timeout Asking)) → AllZip FetchesFor asked parts → (k : ℕ) (d : Timeout Asking) → k < length parts → CanHear (get_or parts k d)
-fetches_can asked parts h = zip_all FetchesFor CanHear (λ ask t. starts_can (Fetch ask.len) t) asked parts h
-
 about_comes : (question : Question) (inner : Option (Step × Reading)) (answer : Outcome × Reading) → IsSomeAnd inner (λ i. IsAbout question i.1) → MayCome inner answer → ComesTo question answer.0 answer.1
 about_comes question None answer h m = absurd h
 about_comes question (Some i) answer h m = subst (λ q. ComesTo q answer.0 answer.1) h.1 m
 
--- and comes to what the bytes of an answer say
-pub starts_comes : (question : Question) (t : Timeout Asking) (heard : Heard) → Starts question t → MayHear t heard → Comes question heard
-starts_comes question t (Ok answer) h m = about_comes question (timeout_future t).inner answer h m
-starts_comes question t (Err elapsed) h m = tt
+module _ {R : Type 0} where
+  -- an ask that was begun may be polled
+  starts_can : (question : Question) (t : Timed (Timeout Asking) R) → Starts question t.future → CanHear t
+  starts_can question t h = about_can question (timeout_future t.future).inner h
 
-pub fetches_come : (asked : List Ask) (parts : List (Timeout Asking)) (heard : List Heard) → AllZip FetchesFor asked parts → GivesEach MayHear parts heard → AllZip FetchComes asked heard
-fetches_come asked parts heard h g = zip_gives FetchesFor MayHear FetchComes (λ ask t one. starts_comes (Fetch ask.len) t one) asked parts heard h g
+  pub fetches_can : (asked : List Ask) (parts : List (Timed (Timeout Asking) R)) → AllZip FetchesFor asked parts → (k : ℕ) (d : Timed (Timeout Asking) R) → k < length parts → CanHear (get_or parts k d)
+  fetches_can asked parts h = zip_all FetchesFor CanHear (λ ask t. starts_can (Fetch ask.len) t) asked parts h
 
-taken_heard : (ask : Ask) (heard : Heard) (fetched : Fetched) → FetchComes ask heard → TakenAs heard fetched → IsHeardFetch ask fetched
-taken_heard ask (Err elapsed) fetched comes taken = subst (IsHeardFetch ask) (sym taken) tt
-taken_heard ask (Ok answer) fetched comes taken = fetched_heard ask answer.0 answer.1 fetched comes (taken comes.holds)
+  -- and comes to what the bytes of an answer say
+  starts_comes : (question : Question) (t : Timed (Timeout Asking) R) (heard : HeardAt) → Starts question t.future → MayHear t heard → Comes question heard.0
+  starts_comes question t (Ok answer, moment) h m = about_comes question (timeout_future t.future).inner answer h m
+  starts_comes question t (Err elapsed, moment) h m = tt
 
-pub all_heard : (asked : List Ask) (heard : List Heard) (answers : List Fetched) → AllZip FetchComes asked heard → AllZip TakenAs heard answers → AllZip IsHeardFetch asked answers
-all_heard asked heard answers h k = zip_through FetchComes TakenAs IsHeardFetch taken_heard asked heard answers h k
+  pub fetches_come : (asked : List Ask) (parts : List (Timed (Timeout Asking) R)) (heard : List HeardAt) → AllZip FetchesFor asked parts → GivesEach MayHear parts heard → AllZip FetchComes asked heard
+  fetches_come asked parts heard h g = zip_gives FetchesFor MayHear FetchComes (λ ask t one. starts_comes (Fetch ask.len) t one) asked parts heard h g
 
-pub heard_all : {E : Type 0} (asked : List Ask) (heard : List Heard) (result : Result (Vec Fetched Global) E) → AllZip FetchComes asked heard
-    → IfOk result (λ answers. AllZip TakenAs heard answers.items) → IfOk result (λ answers. count_by is_wanting answers.items ≡ 0) → IfOk result (λ answers. HeardAll asked answers.items)
+taken_heard : (ask : Ask) (heard : HeardAt) (fetched : Fetched) → FetchComes ask heard → TakenFrom heard fetched → IsHeardFetch ask fetched
+taken_heard ask (Err elapsed, moment) fetched comes taken = subst (IsHeardFetch ask) (sym taken) tt
+taken_heard ask (Ok answer, moment) fetched comes taken = fetched_heard ask answer.0 answer.1 fetched comes (taken comes.holds)
+
+pub all_heard : (asked : List Ask) (heard : List HeardAt) (answers : List Fetched) → AllZip FetchComes asked heard → AllZip TakenFrom heard answers → AllZip IsHeardFetch asked answers
+all_heard asked heard answers h k = zip_through FetchComes TakenFrom IsHeardFetch taken_heard asked heard answers h k
+
+pub heard_all : {E : Type 0} (asked : List Ask) (heard : List HeardAt) (result : Result (Vec Fetched Global) E) → AllZip FetchComes asked heard
+    → IfOk result (λ answers. AllZip TakenFrom heard answers.items) → IfOk result (λ answers. count_by is_wanting answers.items ≡ 0) → IfOk result (λ answers. HeardAll asked answers.items)
 heard_all asked heard (Ok answers) comes taken none = record { each = all_heard asked heard answers.items comes taken; none = none }
 heard_all asked heard (Err e) comes taken none = tt
 

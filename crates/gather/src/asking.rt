@@ -18,6 +18,8 @@ const READ: usize = 16384;
 /// Where an ask is.
 #[derive(Drop)]
 pub enum Step {
+    // Nothing is sent.
+    Unasked,
     Connecting(ConnectFuture, BytesMut),
     Sending(TcpStream, BytesMut),
     Hearing(TcpStream),
@@ -51,6 +53,16 @@ impl Asking {
             inner: Some((Step::Connecting(connect, request), reading)),
         }
     }
+
+    /// An ask that no node hears of. It comes to no answer.
+    pub(crate) fn unasked(reading: Reading) -> Asking
+        requires { IsOpen reading }
+        ensures { Asks (question_of reading) result }
+    {
+        Asking {
+            inner: Some((Step::Unasked, reading)),
+        }
+    }
 }
 
 impl Step {
@@ -60,6 +72,7 @@ impl Step {
         ensures kept { Keeps cx.old cx.new }
     {
         match self {
+            Step::Unasked => Turn::Over(reading.end()),
             Step::Connecting(connect, request) => connect_on(connect, request, reading, cx),
             Step::Sending(link, request) => send_on(link, request, reading, cx),
             Step::Hearing(link) => hear_on(link, reading, cx, buf),

@@ -4,9 +4,9 @@
 //!   ready. A poll polls each that isn't ready yet, and none that was; it takes no memory. [`block_on_all`] says it of a
 //!   whole run: the outputs, each at the place of its future.
 //! - [`TokioNodes`] is `sat_base`'s `Nodes` over TCP. Each ask is a state machine by hand, which connects, sends its
-//!   request and reads the answer by `node_wire`. `fetch_all` gathers all of them, each with a limit of ten seconds, on an
-//!   event loop of this thread. An answer is what the bytes of some answer say (`heard`); the count of faults rises by
-//!   the asks without one (`exact`).
+//!   request and reads the answer by `node_wire`. `fetch_all` gathers all of them, each with a limit of ten seconds, and of
+//!   thirty over all asks with its order, on an event loop of this thread. An answer is what the bytes of some answer say
+//!   (`heard`); the count of faults rises by the asks without one (`exact`).
 //!
 //! Not promised: that a poll that is pending has polled a future that waits for no source, that a request reaches a
 //! node, what a node sends, how long an ask takes, or that a future becomes ready. `trial_gather` tries these.
@@ -15,7 +15,9 @@
 mod asking;
 mod gather;
 mod part;
+mod patience;
 mod round;
+mod timed;
 mod tokio_nodes;
 
 pub use gather::{Gather, block_on_all};

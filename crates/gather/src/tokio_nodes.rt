@@ -4,12 +4,13 @@ ghost use Rattle.std.specs.List.{AllZip};
 ghost use Rattle.sat_base.specs.Outside.{CountsExactly, with_end};
 ghost use Rattle.sat_base.specs.Nodes.{Fetches, FetchesWithin, FetchesAll, Stores, AsksSome, CountsUnanswered, fetch_asks, put_asks, is_unanswered, is_unstored, is_wanting};
 ghost use Rattle.node_wire.specs.Answers.{IsHeardFetch, IsHeardPut, no_asks, no_held};
-ghost use Rattle.gather.specs.Rounds.{TakenAs};
+ghost use Rattle.gather.specs.Rounds.{TakenAs, TakenFrom};
 ghost use Rattle.gather.specs.Counting.{HeardAll, raised_by};
 
-use crate::round::{Heard, fetch_round, put_round};
+use crate::patience::Patience;
+use crate::round::{Heard, HeardAt, fetch_round, put_round};
 use node_wire::{fetched, stored};
-use sat_base::{Ask, Fetched, Items, NoMemory, Nodes, Stored};
+use sat_base::{Ask, Fetched, Items, NoMemory, Nodes, Service, Stored};
 use std::alloc::{AllocGlobal, Global};
 use std::io;
 use std::io::ErrorKind;
@@ -19,17 +20,19 @@ use std::random::RandomSource;
 use std::sync::Wait;
 use std::time::{Clock, Duration};
 
-// For how many seconds a node is asked.
+// For how many seconds a node is asked at once.
 const LIMIT: u64 = 10;
 
 /// Storage nodes of the network, each asked by a connection of its own. `fetch_all` asks all at once, on this thread.
 /// Contracts see how many asks got no answer, up to 2^64 - 1.
 ///
-/// An ask whose node is silent for ten seconds gets no answer, and so does each where no event loop can be made.
+/// An ask whose node is silent for ten seconds gets no answer, and so does one whose order has taken thirty over all asks
+/// with it, and each where no event loop can be made. What an order has taken is forgotten once others are asked with.
 #[derive(Drop)]
 pub struct TokioNodes<R: Drop> {
     rt: R,
-    limit: Duration,
+    patience: Patience,
+    service: Option<Service>,
     faults: u64,
 }
 
@@ -47,14 +50,35 @@ impl<R: Drop> TokioNodes<R> {
         TokioNodes::within(rt, Duration::from_secs(LIMIT))
     }
 
-    /// The same, where a node is asked for so long at most.
+    /// The same, where a node is asked for so long at most, and for three times as long over all asks with one order.
     pub fn within(rt: R, limit: Duration) -> Self
         ensures { result ≡ 0 }
     {
         TokioNodes {
             rt,
-            limit,
+            patience: Patience::new(limit),
+            service: None,
             faults: 0,
+        }
+    }
+
+    /// The nodes, as those of a service: once it has stopped no ask is made, and each goes without an answer.
+    pub fn served(self, service: Service) -> Self
+        ensures { result ≡ self }
+    {
+        TokioNodes {
+            rt: self.rt,
+            patience: self.patience,
+            service: Some(service),
+            faults: self.faults,
+        }
+    }
+
+    // Whether its service has stopped.
+    fn has_stopped(&self) -> bool {
+        match &self.service {
+            Some(service) => service.has_stopped(),
+            None => false,
         }
     }
 
@@ -77,13 +101,13 @@ fn answer_of(alloc: Global, heard: Heard) -> Fetched
 }
 
 // The answers that were heard.
-fn answers_of(alloc: Global, heard: Vec<Heard>) -> Result<Vec<Fetched>, NoMemory>
-    ensures each { IfOk result (λ answers. AllZip TakenAs heard.items answers.items) }
+fn answers_of(alloc: Global, heard: Vec<HeardAt>) -> Result<Vec<Fetched>, NoMemory>
+    ensures each { IfOk result (λ answers. AllZip TakenFrom heard.items answers.items) }
     ensures none { IfOk result (λ answers. count_by is_wanting answers.items ≡ 0) }
 {
     let mut answers = Vec::with_capacity(alloc, heard.len())?;
     for one in heard {
-        let answer = answer_of(alloc, one);
+        let answer = answer_of(alloc, one.0);
         if is_memory(&answer) {
             return Err(NoMemory);
         }
@@ -119,14 +143,14 @@ fn wants_memory(error: &io::Error) -> bool {
 fn ask_all<R>(
     rt: &R,
     alloc: Global,
-    limit: Duration,
+    patience: &mut Patience,
     asked: &[Ask],
 ) -> Result<Vec<Fetched>, NoMemory>
 where
     R: Wait + Clock + Net + RandomSource + AllocGlobal,
     ensures { IfOk result (λ answers. HeardAll asked.now answers.items) }
 {
-    match fetch_round(rt, limit, asked) {
+    match fetch_round(rt, patience, asked) {
         Ok(heard) => answers_of(alloc, heard),
         Err(e) if wants_memory(&e) => Err(NoMemory),
         Err(_) => no_answers(alloc, asked),
@@ -179,7 +203,11 @@ where
         ensures up { self.old ≤ self.new }
         ensures err { OnErr result (self.new ≡ self.old) }
     {
-        let answers = ask_all(&self.rt, alloc, self.limit, asked)?;
+        let answers = if self.has_stopped() {
+            no_answers(alloc, asked)?
+        } else {
+            ask_all(&self.rt, alloc, &mut self.patience, asked)?
+        };
         self.faults = self.faults.saturating_add(unanswered(&answers) as u64);
         Ok(answers)
     }
@@ -227,7 +255,11 @@ where
         // Beside what all nodes promise: it is what the bytes of an answer say.
         ensures heard { IsHeardPut result }
     {
-        let stored = ask_to_keep(&self.rt, self.limit, ask, bytes);
+        let stored = if self.has_stopped() {
+            Stored::NoAnswer
+        } else {
+            ask_to_keep(&self.rt, self.patience.limit(), ask, bytes)
+        };
         if stored == Stored::NoAnswer {
             self.faults = self.faults.saturating_add(1);
         }

@@ -4,6 +4,7 @@ ghost use Rattle.httparse.specs.Spans.{IsHeaderWithin, header_bytes};
 ghost use Rattle.http_edge.specs.Headers.{value_named, values_named, is_key};
 
 use httparse::spans::HeaderSpan;
+use order_limits::is_same;
 
 /// The value of the first header of that name, whatever the case of its letters (RFC 9110, 5.1).
 pub fn first_named<'b>(buf: &'b [u8], headers: &[HeaderSpan], name: &[u8]) -> Option<&'b [u8]>
@@ -38,7 +39,7 @@ pub(crate) fn holds_key(value: &[u8], key: &[u8; 32]) -> bool
 {
     let mut found = [0u8; 32];
     match hex::decode_to_slice(value, &mut found) {
-        Ok(()) => found == *key,
+        Ok(()) => is_same(&found, key),
         Err(_) => false,
     }
 }

@@ -16,7 +16,7 @@ ghost use Rattle.keeper_sqlite.specs.Crash.{rows_of_commit};
 
 use crate::loading::rows_of;
 use crate::refusal::{Refused, refusal};
-use crate::transactions::{create, read, write};
+use crate::transactions::{create, is_shut, read, write};
 use sat_base::{Change, Committed, Items, Keeper, Loaded};
 use sqlite::{Alter, Connection};
 use std::alloc::Global;
@@ -145,6 +145,10 @@ impl<S: Alter + Drop> Keeper for KeeperSqlite<S> {
                 Refused::NoMemory => Committed::NoMemory,
             },
         }
+    }
+
+    fn is_shut(&mut self) -> bool {
+        is_shut(&mut self.conn)
     }
 
     fn count(&self) -> u64 {

@@ -17,6 +17,8 @@ const CREATE: &str =
 
 const SELECT: &str = "SELECT kind, id, body FROM record ORDER BY kind, id";
 
+const PROBE: &str = "SELECT kind FROM record WHERE kind = ?1 AND id = ?2";
+
 // OR REPLACE takes the row of the key out and puts the new one behind all others, which is the plainest
 // meaning to prove. ON CONFLICT DO UPDATE takes as long.
 const UPSERT: &str = "INSERT OR REPLACE INTO record(kind, id, body) VALUES(?1, ?2, ?3)";
@@ -44,6 +46,15 @@ pub(crate) fn select<S: Alter>(tx: &mut Transaction<'_, S>) -> Result<Vec<sqlite
         → IfOk result (λ rows. Shown select_text [] (state S.Store tx.old.conn.now) (state S.Store tx.new.conn.now) rows.items) }
 {
     tx.query_all(SELECT, &[])
+}
+
+/// Looks for a row that no store has, by its key.
+pub(crate) fn probe<S: Alter>(tx: &mut Transaction<'_, S>) -> Result<Vec<sqlite::Row>, Error>
+    requires { IsTrue tx.old.conn.now.in_transaction }
+    ensures same { tx.new.conn.ghost_name ≡ tx.old.conn.ghost_name }
+    ensures kept { Keeps (state S.Store tx.old.conn.now) (state S.Store tx.new.conn.now) }
+{
+    tx.query_all(PROBE, params![0, b"".as_slice()])
 }
 
 /// Puts the row in place of the one with its key, if there is one.

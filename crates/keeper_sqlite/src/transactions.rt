@@ -13,9 +13,9 @@ ghost use Rattle.keeper_sqlite.specs.Opened.{IsShownOf};
 ghost use Rattle.keeper_sqlite.specs.Records.{Holds, entry_shown};
 ghost use Rattle.keeper_sqlite.specs.Transitions.{Keeps, Commits};
 
-use crate::statements::{apply, create_table, select};
+use crate::statements::{apply, create_table, probe, select};
 use sat_base::Change;
-use sqlite::{Alter, Connection, Error};
+use sqlite::{Alter, Connection, Error, ErrorCode};
 
 /// Makes the table if none of its name is there.
 pub(crate) fn create<S: Alter>(conn: &mut Connection<S>) -> Result<(), Error>
@@ -52,6 +52,22 @@ pub(crate) fn read<S: Alter>(conn: &mut Connection<S>) -> Result<Vec<sqlite::Row
     let rows = select(&mut tx)?;
     tx.rollback();
     Ok(rows)
+}
+
+/// Whether a failure has shut the file: then nothing can be read, either. What is read is rolled back.
+pub(crate) fn is_shut<S: Alter>(conn: &mut Connection<S>) -> bool
+    requires { conn.old.in_transaction ≡ false }
+    ensures outside { conn.new.in_transaction ≡ false }
+    ensures kept { Keeps (state S.Store conn.old) (state S.Store conn.new) }
+{
+    let _settled = conn.is_autocommit();
+    let mut tx = conn.transaction();
+    let found = probe(&mut tx);
+    tx.rollback();
+    !matches!(
+        found,
+        Ok(_) | Err(Error::SqliteFailure(ErrorCode::OutOfMemory))
+    )
 }
 
 /// Makes the changes in order, all or none.

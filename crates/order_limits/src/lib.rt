@@ -10,11 +10,12 @@
 //!   the first cause, in the order of [`OrderErr`] (`exact`).
 //! - [`Grant`] gives the limits of an offer or a plan, which expire after [`LIFE`]; an order can be settled for
 //!   [`SETTLE_TIME`] more.
+//! - [`is_same`] says whether bytes that were given are a key or a tag.
 //!
 //! Nothing here takes memory.
 //!
-//! Not promised: that a tag can't be forged, or that an order is fresh, in time or within its limit. That is
-//! settlement's.
+//! Not promised: that a tag can't be forged, or how long [`is_same`] takes, which no contract can say. Nor that an order
+//! is fresh, in time or within its limit: that is settlement's.
 #![tactic(auto)]
 
 mod bytes;
@@ -23,9 +24,11 @@ mod keys;
 mod limit;
 mod mac;
 mod read;
+mod same;
 
 pub use grant::{Grant, LIFE, SETTLE_TIME};
 pub use keys::Keys;
 pub use limit::{Action, Limit, Order};
 pub use mac::hmac;
 pub use read::{OrderErr, read_limit, read_order};
+pub use same::is_same;

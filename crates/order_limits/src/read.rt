@@ -8,6 +8,7 @@ use crate::bytes::bytes_at;
 use crate::keys::Keys;
 use crate::limit::{Action, Limit, Order, order_tag};
 use crate::mac::hmac;
+use crate::same::is_same;
 use sat_base::{CustomerId, NodeId, SegId, Serial};
 
 /// Why bytes are no order, or no limit: the first of these that holds.
@@ -74,7 +75,7 @@ fn fields(bytes: &[u8]) -> Result<Limit, OrderErr>
 fn is_tag(tag: &[u8], key: &[u8; 32], text: &[u8]) -> bool
     ensures { result ≡ is_tag_of tag.now key.now text.now }
 {
-    tag == hmac(key, text).as_slice()
+    is_same(tag, &hmac(key, text))
 }
 
 /// Reads a limit of 83 bytes under the key of its node, as the node itself can.
@@ -142,7 +143,7 @@ fn checked_order(keys: &Keys, bytes: &[u8]) -> Result<Order, OrderErr>
     if !is_tag(limit_tag, &keys.node(limit.node), body) {
         return Err(OrderErr::LimitTag);
     }
-    if tag != order_tag(keys, limit.serial, limit.node, amount).as_slice() {
+    if !is_same(tag, &order_tag(keys, limit.serial, limit.node, amount)) {
         return Err(OrderErr::OrderTag);
     }
     Ok(Order { limit, amount })

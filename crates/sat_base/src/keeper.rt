@@ -83,6 +83,15 @@ pub trait Keeper: Drop {
         ensures steady { failed_commit result ≡ false → faults self.new ≡ faults self.old }
         ensures last { faults self.old ≡ 2 ^ 64 - 1 → faults self.new ≡ 2 ^ 64 - 1 };
 
+    /// Whether a failure has shut it, so that no commit will be done. It may look at the disk, and changes no row.
+    fn is_shut(&mut self) -> bool
+        ensures clean { is_clean self.new → is_clean self.old }
+        ensures opened { is_open self.new → is_open self.old }
+        ensures told { is_open self.new → tells self.old → tells self.new }
+        ensures kept { is_open self.new → tells self.old → rows self.new ≡ rows self.old }
+        ensures crash { is_clean self.new → (m : Rows) → leaves self.new m → leaves self.old m }
+        ensures faults { faults self.new ≡ faults self.old };
+
     /// How many calls have failed. It stands still at 2^64 - 1.
     fn count(&self) -> u64
         ensures { result ≡ faults self.now };

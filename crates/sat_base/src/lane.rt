@@ -32,4 +32,9 @@ pub trait Lane: Drop + Send {
     fn back(&mut self, conn: Self::Conn)
         requires { SomeIsOut (about self.old).links }
         ensures { about self.new ≡ got_back (about self.old) (Self.Conn.about conn) };
+
+    /// Takes no connection any more, so that clients needn't wait. `is_stopped` says that the machine has stopped: what nodes
+    /// are still asked counts for nothing then.
+    fn shut(&mut self, is_stopped: bool)
+        ensures { about self.new ≡ about self.old };
 }

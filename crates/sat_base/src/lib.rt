@@ -2,7 +2,7 @@
 //!
 //! - **The outside**: [`Source`], [`Sink`] and [`Link`], over [`Outside`], which says what they tell and count;
 //!   [`Clock`] and [`Words`]; storage nodes, [`Nodes`]; and what keeps rows, [`Keeper`]. Each has a form in memory,
-//!   which tells all.
+//!   which tells all. Real ones tell each other by a [`Service`] when to end.
 //! - **Time**: [`Moment`], [`Month`] and [`Hour`], and [`month_of`], the civil month in UTC of every moment.
 //! - **Records**: ids, the [`Scheme`] of coding, settings and marks, requests that are kept, rates, the bounds of all of
 //!   them in [`limits`], numbers of decimal digits ([`number`]), and lists as
@@ -57,6 +57,7 @@ mod mem_lane;
 mod mem_nodes;
 mod nodes;
 mod outside;
+mod service;
 mod streams;
 mod ticks;
 mod words;
@@ -83,6 +84,7 @@ pub use records::{At, Containment, Key};
 pub use requests::{Asked, Done, Kept, Offer, Place};
 pub use rows::{Change, Row};
 pub use scheme::{Scheme, SchemeErr};
+pub use service::Service;
 pub use settings::{Caps, Customer, Marks, Settings};
 pub use streams::{Filled, Filling, fill, write_all};
 pub use text::{cut, is_numeral, number, value_up_to};

@@ -108,4 +108,6 @@ impl Lane for MemLane {
     fn back(&mut self, conn: MemLink) {
         self.done.push_reserved(conn);
     }
+
+    fn shut(&mut self, _is_stopped: bool) {}
 }

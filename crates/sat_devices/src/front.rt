@@ -6,6 +6,7 @@ use crate::time_limit::TimeLimit;
 use mio::event::Events;
 use mio::net::TcpListener;
 use mio::{Interest, Poll, Token};
+use sat_base::Service;
 use std::alloc::Global;
 use std::io;
 use std::io::ErrorKind;
@@ -15,13 +16,16 @@ use std::time::{Clock, Duration};
 // The token of the port. Each place of a connection has its number and one more.
 const PORT: usize = 0;
 
-// How many events are taken at once, and how many connections.
+// How many events are taken at once, and how many connections, before a request is handed out that is ready.
 const EVENTS: usize = 1024;
 
-const BURST: u32 = 4096;
+const BURST: u32 = 64;
 
 // After how many seconds it looks again for those whose time is up.
 const SWEEP: u64 = 1;
+
+// For how many seconds connections that were served are still written and read once the port is closed.
+const LINGER: u64 = 2;
 
 /// The connections that come to a port.
 #[derive(Drop)]
@@ -58,20 +62,41 @@ impl<R: Clock + Copy + Net> Front<R> {
     }
 }
 
+// Whether a service is over.
+fn is_over(service: &Option<Service>) -> bool {
+    match service {
+        Some(service) => service.is_over(),
+        None => false,
+    }
+}
+
 impl<R: Clock + Copy> Front<R> {
-    /// The next connection whose request is decided, or whose client sends no more. An error is the port's.
-    pub(crate) fn next(&mut self) -> io::Result<TcpLink<R>> {
+    /// The next connection whose request is decided, or whose client sends no more. None once the service is over, if there is
+    /// one, and an error is the port's.
+    pub(crate) fn next(&mut self, service: &Option<Service>) -> io::Result<Option<TcpLink<R>>> {
         for _ in 0..u64::MAX {
-            if self.may_wait {
-                self.accept()?;
+            if is_over(service) {
+                return Ok(None);
             }
-            if let Some(link) = self.guests.hand_out() {
+            let link = self.look()?;
+            if link.is_some() {
                 return Ok(link);
             }
-            self.wait()?;
-            self.sweep();
         }
-        Err(io::Error::from(ErrorKind::TimedOut))
+        Ok(None)
+    }
+
+    // Takes, reads and writes what can be, within about a second. The next connection whose request is ready, if one is.
+    fn look(&mut self) -> io::Result<Option<TcpLink<R>>> {
+        let is_drained = !self.may_wait || self.accept()?;
+        let seconds = if is_drained && !self.guests.has_ready() {
+            SWEEP
+        } else {
+            0
+        };
+        self.wait(Duration::from_secs(seconds))?;
+        self.sweep();
+        Ok(self.guests.hand_out())
     }
 
     /// Takes back a connection that was handed out.
@@ -79,14 +104,42 @@ impl<R: Clock + Copy> Front<R> {
         self.guests.back(link);
     }
 
-    // Waits until something comes, and reads and writes what can be.
-    fn wait(&mut self) -> io::Result<()> {
-        let timeout = if self.guests.is_empty() && !self.may_wait {
-            None
-        } else {
-            Some(Duration::from_secs(SWEEP))
-        };
-        self.poll.poll(&mut self.events, timeout)?;
+    /// Closes the port, so that clients are refused, and lets those go that were served: for two seconds at most they are
+    /// written what is left of their answers.
+    pub(crate) fn close(self) {
+        let Front {
+            rt,
+            listener,
+            poll,
+            events,
+            guests,
+            may_wait: _,
+            sweep: _,
+        } = self;
+        drop(listener);
+        let (mut poll, mut events, mut guests) = (poll, events, guests);
+        let limit = TimeLimit::after(&rt, LINGER);
+        for _ in 0..u64::MAX {
+            let Some(left) = limit.left(&rt, LINGER) else {
+                return;
+            };
+            if !guests.are_leaving() || poll.poll(&mut events, Some(left)).is_err() {
+                return;
+            }
+            for event in events.iter() {
+                let Token(token) = event.token();
+                guests.look(token.saturating_sub(1));
+            }
+        }
+    }
+
+    // Waits until something comes, for so long at most, and reads and writes what can be.
+    fn wait(&mut self, most: Duration) -> io::Result<()> {
+        match self.poll.poll(&mut self.events, Some(most)) {
+            Ok(()) => {}
+            Err(e) if luck_of(&e) == Luck::Passing => return Ok(()),
+            Err(e) => return Err(e),
+        }
         for event in self.events.iter() {
             let Token(token) = event.token();
             match token.checked_sub(1) {
@@ -97,24 +150,24 @@ impl<R: Clock + Copy> Front<R> {
         Ok(())
     }
 
-    // Takes the connections that wait at the port.
-    fn accept(&mut self) -> io::Result<()> {
+    // Takes the connections that wait at the port. True where no more can be taken at once.
+    fn accept(&mut self) -> io::Result<bool> {
         for _ in 0..BURST {
             match self.listener.accept() {
                 Ok((stream, _)) => self.guests.admit(self.poll.registry(), stream),
                 Err(e) => match luck_of(&e) {
                     Luck::None => {
                         self.may_wait = false;
-                        return Ok(());
+                        return Ok(true);
                     }
                     Luck::Passing => {}
                     Luck::Scarce if self.guests.send_away().is_some() => {}
-                    Luck::Scarce | Luck::Later => return Ok(()),
+                    Luck::Scarce | Luck::Later => return Ok(true),
                     Luck::Broken => return Err(e),
                 },
             }
         }
-        Ok(())
+        Ok(false)
     }
 
     // Closes those whose time is up.

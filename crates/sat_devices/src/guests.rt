@@ -48,19 +48,24 @@ impl<R: Clock + Copy> Guests<R> {
         }
     }
 
-    /// Whether none is waited for.
-    pub(crate) fn is_empty(&self) -> bool {
-        self.places
-            .iter()
-            .all(|guest| matches!(guest, Guest::Nobody | Guest::Away))
-    }
-
     // Puts a guest at a place, for the one who was there.
     fn put(&mut self, place: usize, guest: Guest) -> Guest {
         match self.places.get_mut(place) {
             Some(at) => mem::replace(at, guest),
             None => Guest::Nobody,
         }
+    }
+
+    /// Whether a request is ready.
+    pub(crate) fn has_ready(&self) -> bool {
+        !self.ready.is_empty()
+    }
+
+    /// Whether some connection was served and isn't closed.
+    pub(crate) fn are_leaving(&self) -> bool {
+        self.places
+            .iter()
+            .any(|guest| matches!(guest, Guest::Leaving(_)))
     }
 
     /// The next connection whose request is ready.

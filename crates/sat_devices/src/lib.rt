@@ -39,6 +39,7 @@ mod system_clock;
 mod tcp_lane;
 mod tcp_link;
 mod time_limit;
+mod watched;
 mod whole;
 mod within;
 
@@ -49,3 +50,4 @@ pub use sleep_ticks::SleepTicks;
 pub use system_clock::SystemClock;
 pub use tcp_lane::TcpLane;
 pub use tcp_link::TcpLink;
+pub use watched::Watched;

@@ -1,5 +1,5 @@
 // A lane of connections over TCP.
-ghost use Rattle.std.specs.Prelude.{◌≡◌, ◌<◌, IfOk};
+ghost use Rattle.std.specs.Prelude.{◌≡◌, ◌<◌, IfOk, false};
 ghost use Rattle.sat_base.specs.Lane.{Nexts, SomeIsOut, got_back};
 ghost use Rattle.sat_devices.specs.Faults.{device_about};
 ghost use Rattle.sat_devices.specs.Waits.{AtPort, lane_about};
@@ -7,34 +7,40 @@ ghost use Rattle.sat_devices.specs.Waits.{AtPort, lane_about};
 use crate::TcpLink;
 use crate::front::Front;
 use mio::net::TcpListener;
-use sat_base::{Came, Lane};
+use sat_base::{Came, Lane, Service};
 use std::io;
 use std::marker::Model;
 use std::net::{Ipv4Addr, Net, SocketAddr, SocketAddrV4};
 use std::time::Clock;
 
 /// The connections that come to a port of 127.0.0.1, one at a time, each once its request is decided or its client sends no
-/// more. Contracts see the port, how many were handed out, and how many waits have failed, both up to 2^64 - 1. None is the
-/// last.
+/// more. Contracts see the port, how many were handed out, and how many waits have failed, both up to 2^64 - 1, and whether
+/// none comes any more.
+///
+/// Once a wait has failed, its service is over, or it was shut, it listens no more, so that clients are refused, and no
+/// connection comes.
 #[derive(Drop)]
 pub struct TcpLane<R: Clock + Copy> {
-    front: Front<R>,
+    // Until it listens no more.
+    front: Option<Front<R>>,
+    service: Option<Service>,
     port: u16,
     given: u64,
+    over: bool,
     faults: u64,
 }
 
 impl<R: Clock + Copy> Model for TcpLane<R> {
     ghost Value = { AtPort };
 
-    ghost view = { λ l. record { port = l.port; given = l.given; faults = l.faults } };
+    ghost view = { λ l. record { port = l.port; given = l.given; over = l.over; faults = l.faults } };
 }
 
 impl<R: Clock + Copy + Net + AllocGlobal> TcpLane<R> {
     /// A lane at this port of 127.0.0.1, or at one that the system picks where it is 0. An error is the system's, as
     /// where another program has the port.
     pub fn listen(rt: R, port: u16) -> io::Result<TcpLane<R>>
-        ensures fresh { IfOk result (λ l. (l.given ≡ 0) × (l.faults ≡ 0)) }
+        ensures fresh { IfOk result (λ l. (l.given ≡ 0) × (l.over ≡ false) × (l.faults ≡ 0)) }
         ensures port { IfOk result (λ l. 0 < port → l.port ≡ port) }
     {
         let at = SocketAddr::V4(SocketAddrV4::new(Ipv4Addr::LOCALHOST, port));
@@ -45,15 +51,45 @@ impl<R: Clock + Copy + Net + AllocGlobal> TcpLane<R> {
             port
         };
         Ok(TcpLane {
-            front: Front::new(rt, rt.alloc(), listener)?,
+            front: Some(Front::new(rt, rt.alloc(), listener)?),
+            service: None,
             port: at,
             given: 0,
+            over: false,
             faults: 0,
         })
     }
 }
 
 impl<R: Clock + Copy> TcpLane<R> {
+    /// The lane, as one of a service: it ends with it.
+    pub fn served(self, service: Service) -> TcpLane<R>
+        ensures { result ≡ self }
+    {
+        service.open_lane();
+        TcpLane {
+            front: self.front,
+            service: Some(service),
+            port: self.port,
+            given: self.given,
+            over: self.over,
+            faults: self.faults,
+        }
+    }
+
+    // Listens no more.
+    fn close(&mut self)
+        ensures { self.new ≡ self.old }
+    {
+        let Some(front) = self.front.take() else {
+            return;
+        };
+        front.close();
+        if let Some(service) = &self.service {
+            service.close_lane();
+        }
+    }
+
     /// The port.
     pub fn port(&self) -> u16
         ensures { result ≡ self.now.port }
@@ -80,13 +116,26 @@ impl<R: Clock + Copy + Send> Lane for TcpLane<R> {
         // Beside what every lane promises.
         ensures port { self.new.port ≡ self.old.port }
     {
-        match self.front.next() {
-            Ok(link) => {
+        if self.over {
+            return Came::Ended;
+        }
+        let came = match &mut self.front {
+            Some(front) => front.next(&self.service),
+            None => Ok(None),
+        };
+        match came {
+            Ok(Some(link)) => {
                 self.given = self.given.saturating_add(1);
                 Came::Conn(link)
             }
+            Ok(None) => {
+                self.over = true;
+                self.close();
+                Came::Ended
+            }
             Err(_) => {
                 self.faults = self.faults.saturating_add(1);
+                self.close();
                 Came::Failed
             }
         }
@@ -96,6 +145,19 @@ impl<R: Clock + Copy + Send> Lane for TcpLane<R> {
         ensures returned { lane_about self.new ≡ got_back (lane_about self.old) (device_about conn) }
         ensures port { self.new.port ≡ self.old.port }
     {
-        self.front.back(conn);
+        if let Some(front) = &mut self.front {
+            front.back(conn);
+        }
+    }
+
+    fn shut(&mut self, is_stopped: bool)
+        ensures about { lane_about self.new ≡ lane_about self.old }
+        ensures port { self.new.port ≡ self.old.port }
+    {
+        self.close();
+        match &self.service {
+            Some(service) if is_stopped => service.stop(),
+            _ => {}
+        }
     }
 }

@@ -57,6 +57,10 @@ impl Keeper for Steady {
         self.keeper.commit(alloc, changes)
     }
 
+    fn is_shut(&mut self) -> bool {
+        self.keeper.is_shut()
+    }
+
     fn count(&self) -> u64 {
         self.keeper.count()
     }

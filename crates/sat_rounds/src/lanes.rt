@@ -56,9 +56,9 @@ fn is_full(end: SessionEnd) -> bool
     matches!(end, SessionEnd::TermFull { .. })
 }
 
-/// Serves the connections of a lane, one after another, and gives each back. The room for a session is made before its
-/// connection is taken. `lane` is the lane's number, for the gate.
-pub fn lane_worker<K: Keeper, L: Lane, T: Clock, W: Words, G: Gate, R: Wait>(
+// Serves the connections of a lane, one after another, and gives each back. The room for a session is made before its
+// connection is taken.
+fn serve_lane<K: Keeper, L: Lane, T: Clock, W: Words, G: Gate, R: Wait>(
     rt: &R,
     alloc: Global,
     desk: &Desk<Book<K>>,
@@ -142,4 +142,27 @@ pub fn lane_worker<K: Keeper, L: Lane, T: Clock, W: Words, G: Gate, R: Wait>(
         sessions,
         end: LaneEnd::Many,
     }
+}
+
+/// Serves the connections of a lane, one after another, gives each back, and shuts the lane behind the last. The room for a
+/// session is made before its connection is taken. `lane` is the lane's number, for the gate.
+pub fn lane_worker<K: Keeper, L: Lane, T: Clock, W: Words, G: Gate, R: Wait>(
+    rt: &R,
+    alloc: Global,
+    desk: &Desk<Book<K>>,
+    pass: BookPass<K>,
+    keys: &Keys,
+    post: Post<L, T, W>,
+    gate: &G,
+    lane: u16,
+) -> LaneWorked<K, L, T, W>
+    requires desk { pass.desk ≡ desk.now }
+    requires base { IsSome pass.base }
+    ensures { LaneRan keys.now desk.now.term (post_view L.about T.coming W.left W.faults post) pass result.sessions.items result.end
+        (post_view L.about T.coming W.left W.faults result.post) result.pass }
+{
+    let mut worked = serve_lane(rt, alloc, desk, pass, keys, post, gate, lane);
+    let is_stopped = matches!(worked.end, LaneEnd::Stopped);
+    worked.post.lane.shut(is_stopped);
+    worked
 }

@@ -1,8 +1,11 @@
 // The devices of the program.
-ghost use Rattle.std.specs.Prelude.{◌≡◌, ◌≤◌, length};
+ghost use Rattle.std.specs.Prelude.{◌≡◌, ◌≤◌, length, IfOk};
 
 use crate::StartErr;
-use sat_base::{Clock as Times, Gate, Keeper, Lane, Line, Link, Nodes, OpenGate, Ticks, Words};
+use sat_base::{
+    Clock as Times, Gate, Keeper, Lane, Line, Link, NoMemory, Nodes, OpenGate, Service, Ticks,
+    Words,
+};
 use sat_devices::{MachineWords, SleepTicks, SystemClock, TcpLane};
 use satellite_cli::{Ended, Kit, Post, World, satellite};
 use std::alloc::Global;
@@ -24,31 +27,43 @@ pub struct Network<N> {
     pub tally: N,
 }
 
-/// What serves: the lanes, the seconds between two ticks, and the storage nodes.
+/// What serves: the lanes, the seconds between two ticks, the storage nodes, and what tells when all of it is over.
 #[derive(Drop)]
 pub struct Crew<N> {
     pub posts: Lanes,
     pub tick: u32,
     pub network: Network<N>,
+    pub service: Service,
 }
 
 // What a worker of rounds has: it asks these nodes, and makes a round every so many seconds.
-fn kit<N>(rt: HostRuntime, nodes: N, tick: u32) -> Kit<N, Clock, Random, SleepTicks<HostRuntime>> {
+fn kit<N>(
+    rt: HostRuntime,
+    nodes: N,
+    tick: u32,
+    service: Service,
+) -> Kit<N, Clock, Random, SleepTicks<HostRuntime>> {
     Kit {
         nodes,
         clock: SystemClock::new(rt),
         words: MachineWords::new(rt),
-        ticks: SleepTicks::new(rt, tick),
+        ticks: SleepTicks::new(rt, tick).served(service),
     }
 }
 
 /// A lane at each of so many ports of 127.0.0.1. A port that can't be had is told on standard error.
-pub fn bound(rt: HostRuntime, alloc: Global, port: u16, lanes: u16) -> Result<Lanes, StartErr> {
+pub fn bound(
+    rt: HostRuntime,
+    alloc: Global,
+    service: &Service,
+    port: u16,
+    lanes: u16,
+) -> Result<Lanes, StartErr> {
     let mut posts = Vec::new(alloc);
     for number in 0..lanes {
         let port = port.saturating_add(number);
         let lane = match TcpLane::listen(rt, port) {
-            Ok(lane) => lane,
+            Ok(lane) => lane.served(service.share()?),
             Err(e) => {
                 // It stands whether that can be told or not.
                 let _ = eprintln!(rt; "satellite: port {port}: {e}");
@@ -80,33 +95,35 @@ pub type Devices<C, K, N> = World<
 >;
 
 /// All devices over a console and a keeper.
-pub fn devices<C: Link, K, N>(
+pub fn devices<C: Link, K: Drop, N: Drop>(
     rt: HostRuntime,
     console: C,
     keeper: K,
     crew: Crew<N>,
-) -> Devices<C, K, N>
-    ensures { result.posts ≡ crew.posts }
+) -> Result<Devices<C, K, N>, NoMemory>
+    ensures { IfOk result (λ world. world.posts ≡ crew.posts) }
 {
     let Crew {
         posts,
         tick,
         network,
+        service,
     } = crew;
+    let (for_audit, for_repair) = (service.share()?, service.share()?);
     let Network {
         audit,
         repair,
         tally,
     } = network;
-    World {
+    Ok(World {
         console,
         keeper,
         posts,
-        audit: kit(rt, audit, tick),
-        repair: kit(rt, repair, tick),
-        tally: kit(rt, tally, tick),
+        audit: kit(rt, audit, tick, for_audit),
+        repair: kit(rt, repair, tick, for_repair),
+        tally: kit(rt, tally, tick, service),
         gate: OpenGate::of(),
-    }
+    })
 }
 
 /// Runs the command that the words are, over any devices: its status, and the keeper again. The other devices are let go here,

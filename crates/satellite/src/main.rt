@@ -10,10 +10,11 @@ ghost use Rattle.std.specs.Prelude.{◌≡◌, []};
 
 mod devices;
 mod store;
+mod usage;
 
 use devices::{Crew, Network, bound, devices};
 use gather::TokioNodes;
-use sat_base::{KeeperMem, Line, NoMemory, Nodes};
+use sat_base::{KeeperMem, Line, NoMemory, Nodes, Service};
 use sat_devices::Console;
 use satellite_cli::{Command, LineErr, Status, read_line};
 use std::alloc::Global;
@@ -24,6 +25,7 @@ use std::sync::Wait;
 use std::thread::Threads;
 use std::{env, io};
 use store::{OpenStore, over_file};
+use usage::say_usage;
 
 // Where a port or the store's file can't be had.
 const START: u8 = 20;
@@ -34,6 +36,12 @@ pub enum StartErr {
     Start,
     /// Memory is wanting.
     NoMemory,
+}
+
+impl From<NoMemory> for StartErr {
+    fn from(_: NoMemory) -> StartErr {
+        StartErr::NoMemory
+    }
 }
 
 // The words after the program's name. Words that are no text are read as none, which is no command either.
@@ -51,13 +59,14 @@ fn words<R: Env + AllocGlobal>(rt: &R, alloc: Global) -> Result<Line, NoMemory> 
 }
 
 // What serves where nothing is served.
-fn idle<N>(alloc: Global, network: Network<N>) -> Crew<N>
+fn idle<N>(alloc: Global, network: Network<N>, service: Service) -> Crew<N>
     ensures { result.posts.items ≡ [] }
 {
     Crew {
         posts: Vec::new(alloc),
         tick: 0,
         network,
+        service,
     }
 }
 
@@ -68,12 +77,13 @@ fn without_store<N: Nodes + Send, R: Threads + Wait + Sync>(
     alloc: Global,
     line: &Line,
     network: Network<N>,
-) -> u8 {
+    service: Service,
+) -> Result<u8, StartErr> {
     let keeper = KeeperMem::of(Vec::new(alloc), Vec::new(alloc));
     let console = Console::new(rt.reader(), io::writer(&rt));
-    let world = devices(rt, console, keeper, idle(alloc, network));
+    let world = devices(rt, console, keeper, idle(alloc, network, service))?;
     let (status, _) = devices::run(handles, alloc, line, world);
-    status
+    Ok(status)
 }
 
 fn run<N: Nodes + Send, R: Threads + Wait + Sync>(
@@ -81,6 +91,7 @@ fn run<N: Nodes + Send, R: Threads + Wait + Sync>(
     handles: &R,
     alloc: Global,
     network: Network<N>,
+    service: Service,
 ) -> Result<u8, StartErr> {
     let line = match words(&rt, alloc) {
         Ok(line) => line,
@@ -91,7 +102,7 @@ fn run<N: Nodes + Send, R: Threads + Wait + Sync>(
             let open = OpenStore {
                 name: store.as_slice(),
                 may_make: true,
-                crew: idle(alloc, network),
+                crew: idle(alloc, network, service),
             };
             over_file(rt, handles, alloc, &line, open)
         }
@@ -99,7 +110,7 @@ fn run<N: Nodes + Send, R: Threads + Wait + Sync>(
             let open = OpenStore {
                 name: store.as_slice(),
                 may_make: false,
-                crew: idle(alloc, network),
+                crew: idle(alloc, network, service),
             };
             over_file(rt, handles, alloc, &line, open)
         }
@@ -112,7 +123,7 @@ fn run<N: Nodes + Send, R: Threads + Wait + Sync>(
                 ..
             },
         ) => {
-            let posts = bound(rt, alloc, port, lanes)?;
+            let posts = bound(rt, alloc, &service, port, lanes)?;
             let open = OpenStore {
                 name: store.as_slice(),
                 may_make: false,
@@ -120,22 +131,38 @@ fn run<N: Nodes + Send, R: Threads + Wait + Sync>(
                     posts,
                     tick,
                     network,
+                    service,
                 },
             };
             over_file(rt, handles, alloc, &line, open)
         }
-        Ok(_) | Err(LineErr::Usage) => Ok(without_store(rt, handles, alloc, &line, network)),
+        Ok(_) => without_store(rt, handles, alloc, &line, network, service),
+        Err(LineErr::Usage) => {
+            // The status and its line stand whether that can be told or not.
+            let _ = say_usage(&rt, &line);
+            without_store(rt, handles, alloc, &line, network, service)
+        }
         Err(LineErr::NoMemory) => Err(StartErr::NoMemory),
     }
 }
 
-fn main(rt: HostRuntime) -> ExitCode {
+// The storage nodes, and the service that tells them when nobody is to be asked any more.
+fn network(rt: HostRuntime) -> Result<(Network<TokioNodes<HostRuntime>>, Service), NoMemory> {
+    let service = Service::new(rt.alloc())?;
     let network = Network {
-        audit: TokioNodes::new(rt),
-        repair: TokioNodes::new(rt),
-        tally: TokioNodes::new(rt),
+        audit: TokioNodes::new(rt).served(service.share()?),
+        repair: TokioNodes::new(rt).served(service.share()?),
+        tally: TokioNodes::new(rt).served(service.share()?),
     };
-    let status = match run(rt, &rt, rt.alloc(), network) {
+    Ok((network, service))
+}
+
+fn main(rt: HostRuntime) -> ExitCode {
+    let ran = match network(rt) {
+        Ok((network, service)) => run(rt, &rt, rt.alloc(), network, service),
+        Err(NoMemory) => Err(StartErr::NoMemory),
+    };
+    let status = match ran {
         Ok(status) => return ExitCode::from(status),
         Err(StartErr::Start) => {
             // The status stands whether its line can be printed or not.

@@ -3,7 +3,8 @@ use crate::StartErr;
 use crate::devices::{Crew, devices, run};
 use keeper_sqlite::{KeeperSqlite, Refused};
 use sat_base::{Line, Nodes};
-use sat_devices::Console;
+use sat_devices::{Console, Watched};
+use satellite_cli::Status;
 use sqlite::{Alter, Connection, Error, ErrorCode, File, FileStore};
 use std::alloc::Global;
 use std::fs::{self, OpenOptions};
@@ -87,7 +88,8 @@ fn opened(
     }
 }
 
-// A run over a store, whatever it is.
+// A run over a store, whatever it is. Once no commit can be done any more it ends, and that is its status where it has no
+// other.
 fn over_store<S: Alter + Drop + Send, N: Nodes + Send, R: Threads + Wait + Sync>(
     rt: HostRuntime,
     handles: &R,
@@ -104,10 +106,17 @@ fn over_store<S: Alter + Drop + Send, N: Nodes + Send, R: Threads + Wait + Sync>
         Err(Refused::Fault) => return Err(StartErr::Start),
         Err(Refused::NoMemory) => return Err(StartErr::NoMemory),
     };
+    let (mine, its) = (crew.service.share()?, crew.service.share()?);
     let console = Console::new(rt.reader(), io::writer(&rt));
-    let world = devices(rt, console, keeper, crew);
+    let world = devices(rt, console, Watched::of(keeper, its), crew)?;
     let (status, keeper) = run(handles, alloc, line, world);
-    Ok((status, keeper.into_connection()))
+    let conn = keeper.into_keeper().into_connection();
+    if mine.lost_store() && status == 0 {
+        // The status stands whether its line can be printed or not.
+        let _ = rt.print("error: store\n");
+        return Ok((Status::StoreFault.code(), conn));
+    }
+    Ok((status, conn))
 }
 
 /// A run over the file of this name, which is closed at the end, so that one file is left.

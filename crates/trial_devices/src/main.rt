@@ -7,6 +7,7 @@
 //! - `connections`: an exchange, clients that close, addresses, a taken port, a lane in a thread.
 //! - `endings`: unread bytes, a client that stays, one that resets.
 //! - `crowds`: silent clients, many requests at once, an answer that isn't read.
+//! - `services`: a store that is lost, lanes that are shut, and what ends with them.
 //! - `machine`: words, moments and ticks of the system, and of one that fails or jumps when it is told to.
 //!
 //! Nothing is promised beyond `sat_devices`' contract.
@@ -19,6 +20,7 @@ mod crowds;
 mod endings;
 mod machine;
 mod scripted;
+mod services;
 
 use anyhow::Result;
 
@@ -38,5 +40,8 @@ fn main(rt: HostRuntime) -> Result<()> {
     machine::moments(&rt)?;
     machine::jumps(&rt)?;
     machine::ticks(&rt)?;
+    services::losses(&rt)?;
+    services::ends(&rt)?;
+    services::shuts(&rt)?;
     console::faulty(&rt)
 }

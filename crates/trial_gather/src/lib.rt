@@ -15,6 +15,8 @@ mod node;
 #[cfg(test)]
 mod nodes;
 #[cfg(test)]
+mod patience;
+#[cfg(test)]
 mod readings;
 #[cfg(test)]
 mod requests;

@@ -1,9 +1,10 @@
 // Nodes of the cases: listeners that read one request each, and answer as they are told.
 use sat_base::{Ask, NodeId, SegId};
-use std::io;
 use std::io::{Read, Write};
 use std::net::{Ipv4Addr, Net, SocketAddr, TcpListener, TcpStream};
 use std::sync::atomic::{AtomicU32, Ordering};
+use std::time::{Clock, Duration};
+use std::{io, thread};
 
 /// How a node writes its answer.
 #[derive(Clone, Copy)]
@@ -19,6 +20,9 @@ const LOOKS: u64 = 1 << 28;
 
 // The most bytes of a request.
 const MOST: usize = 4096;
+
+// Where the piece's index begins in a request, as in "GET /piece/5/3".
+const INDEX_AT: usize = 13;
 
 /// A listener at a free port of this machine, and the port.
 pub fn listen<N>(rt: &N) -> io::Result<(TcpListener, u16)>
@@ -44,13 +48,17 @@ pub fn ask_at(port: u16, index: u8, len: u64) -> Ask {
     }
 }
 
-// Reads a request's head, and its body where it has one of so many bytes.
-fn read_request(socket: &mut TcpStream, body: usize) -> io::Result<()> {
+// Reads a request's head, and its body where it has one of so many bytes. It gives the first digit of the piece's index.
+fn read_request(socket: &mut TcpStream, body: usize) -> io::Result<u8> {
     let mut last = [0u8; 4];
-    for _ in 0..MOST {
+    let mut index = 0;
+    for at in 0..MOST {
         let mut byte = [0u8; 1];
         socket.read_exact(&mut byte)?;
         last = [last[1], last[2], last[3], byte[0]];
+        if at == INDEX_AT {
+            index = byte[0];
+        }
         if last == *b"\r\n\r\n" {
             break;
         }
@@ -58,7 +66,7 @@ fn read_request(socket: &mut TcpStream, body: usize) -> io::Result<()> {
     for _ in 0..body {
         socket.read_exact(&mut [0u8; 1])?;
     }
-    Ok(())
+    Ok(index)
 }
 
 /// Serves one connection, whose request has a body of so many bytes, with an answer of this text, and closes it.
@@ -74,6 +82,29 @@ pub fn serve(listener: &TcpListener, body: usize, manner: Manner, text: &[u8]) -
             Ok(())
         }
     }
+}
+
+/// Serves one connection after another, each after a pause, up to the one that asks for the last index, a digit. A client
+/// that gave up is passed over.
+pub fn serve_late(
+    clock: &impl Clock,
+    listener: &TcpListener,
+    pause: Duration,
+    last: u8,
+    text: &[u8],
+) -> io::Result<()> {
+    for _ in 0..MOST {
+        let (mut socket, _) = listener.accept()?;
+        let Ok(index) = read_request(&mut socket, 0) else {
+            continue;
+        };
+        thread::sleep(clock, pause);
+        let written = socket.write_all(text);
+        if index == last {
+            return written;
+        }
+    }
+    Ok(())
 }
 
 /// A check sum of bytes, behind those that it has.

@@ -8,9 +8,11 @@ use std::test::Fail;
 use std::thread;
 use std::time::{Duration, Instant};
 
-const SHARE: &[u8] = b"HTTP/1.1 200 OK\r\ncontent-length: 2\r\n\r\n\x01\x02";
+/// An answer with a share of two bytes.
+pub const SHARE: &[u8] = b"HTTP/1.1 200 OK\r\ncontent-length: 2\r\n\r\n\x01\x02";
 
-fn is_share(fetched: &Fetched) -> bool {
+/// Whether it is that share.
+pub fn is_share(fetched: &Fetched) -> bool {
     matches!(fetched, Fetched::Share(bytes) if bytes.as_slice() == [1, 2].as_slice())
 }
 

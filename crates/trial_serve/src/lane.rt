@@ -74,4 +74,6 @@ impl Lane for TrialLane {
         // where there is no memory it isn't kept
         let _kept = self.done.push(conn);
     }
+
+    fn shut(&mut self, _is_stopped: bool) {}
 }

@@ -2,6 +2,7 @@ use Rattle.std.proofs.Common.{List, ◌+◌, ◌∙◌, take, arith, sym, subst}
 use Rattle.std.specs.List.{AllZip}
 use Rattle.tokio.specs.declared.time.timeout.Timeout.{Timeout}
 use Rattle.gather.specs.declared.asking.Asking.{Asking}
+use Rattle.gather.specs.declared.timed.Timed.{Timed}
 use Rattle.gather.specs.Rounds.{FetchesFor}
 use Rattle.gather.proofs.Zips.{zip_more}
 use Rattle.gather.proofs.round.fetches.Goals as goal
@@ -14,6 +15,6 @@ loop-ask-preserved g c =
     record {
       made = omega (arith, c.push_reserved.ensures.len, before.made);
       room = c.push_reserved.ensures.capacity ∙ before.room;
-      each = subst (λ (parts : List (Timeout Asking)). AllZip FetchesFor (take (i + 1) asked) parts) (sym c.push_reserved.ensures.items)
+      each = subst (λ (parts : List (Timed (Timeout Asking) g.row.R.Denot)). AllZip FetchesFor (take (i + 1) asked) parts) (sym c.push_reserved.ensures.items)
           (zip_more FetchesFor asked i _ c.loop-ask.parts.items c.in_ok-part.part c.loop-ask-test.true before.each c.in_ok-part.ensures);
     }

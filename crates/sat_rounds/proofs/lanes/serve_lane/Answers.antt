@@ -1,7 +1,7 @@
 use Rattle.std.proofs.Common.{refl, sym, ◌∙◌}
 use Rattle.sat_rounds.specs.declared.told.Session.{Session}
 use Rattle.sat_rounds.proofs.LaneLemmas.{far_on, ran_full, ran_stopped, so_far_more}
-use Rattle.sat_rounds.proofs.lanes.lane_worker.Goals as goal
+use Rattle.sat_rounds.proofs.lanes.serve_lane.Goals as goal
 
 pub returns-then-stops : goal.returns-then-stops
 returns-then-stops g c =
