@@ -1,4 +1,4 @@
 mod CountLemmas
-mod PartLemmas
+pub mod PartLemmas
 mod RoundLemmas
 mod Zips

@@ -3,19 +3,14 @@ ghost use Rattle.std.specs.Prelude.{◌≡◌, ◌≤◌, ℕ, [], All, map, vec
 ghost use Rattle.futures.specs.Outputs.{EachResumes};
 ghost use Rattle.futures.specs.Poll.{IfReady, OnPending};
 ghost use Rattle.futures.specs.Task.{Covers, Keeps};
-ghost use Rattle.gather.specs.Gathered.{IsLive, IsDone, MayGive, AnyWaits, SomeWaits, GivesEach, HasRoom, Awaits, CanGather, GatherNeeds, GatherWaits, Gathers};
+ghost use Rattle.gather.specs.Gathered.{IsLive, IsDone, MayGive, AnyWaits, SomeWaits, HasRoom, Awaits, CanGather, GatherNeeds, GatherWaits, Gathers};
 ghost use Rattle.gather.specs.declared.part.Part.TheVariants.{Waiting, Done};
 
 use crate::part::Part;
 use futures::Future;
-use futures::executor::block_on;
 use futures::task::{Context, Poll};
 use sat_base::NoMemory;
-use std::alloc::{AllocGlobal, Global};
-use std::io;
-use std::io::ErrorKind;
-use std::random::RandomSource;
-use std::sync::Wait;
+use std::alloc::Global;
 
 /// Many futures as one, whose output is the list of theirs in asking order. `T` is the output of `F`.
 ///
@@ -127,20 +122,5 @@ impl<F: Future<Output: Drop>> Future for Gather<F, F::Output> {
 
     fn poll(&mut self, cx: &mut Context<'_>) -> Poll<Vec<F::Output>> {
         self.poll_all(cx)
-    }
-}
-
-/// The outputs of futures that are polled together on this thread, each at the place of its future. It waits until
-/// each is ready. An error is the executor's, or says that memory is wanting.
-pub fn block_on_all<R, F>(rt: &R, parts: Vec<F>) -> io::Result<Vec<F::Output>>
-where
-    R: Wait + RandomSource + AllocGlobal,
-    F: Future<Output: Drop>,
-    requires { All F.can_poll parts.items }
-    ensures { IfOk result (λ outs. GivesEach F.gives parts.items outs.items) }
-{
-    match Gather::new(rt.alloc(), parts) {
-        Ok(whole) => block_on(rt, whole),
-        Err(_) => Err(io::Error::from(ErrorKind::OutOfMemory)),
     }
 }

@@ -1,8 +1,7 @@
 //! Storage nodes, asked all at once over the network by one thread.
 //!
 //! - [`Gather`] is many futures as one, whose output is the list of theirs in asking order, in whatever order they become
-//!   ready. A poll polls each that isn't ready yet, and none that was; it takes no memory. [`block_on_all`] says it of a
-//!   whole run: the outputs, each at the place of its future.
+//!   ready. A poll polls each that isn't ready yet, and none that was; it takes no memory.
 //! - [`TokioNodes`] is `sat_base`'s `Nodes` over TCP. Each ask is a state machine by hand, which connects, sends its
 //!   request and reads the answer by `node_wire`. `fetch_all` gathers all of them, each with a limit of ten seconds, and of
 //!   thirty over all asks with its order, on an event loop of this thread. An answer is what the bytes of some answer say
@@ -20,7 +19,7 @@ mod round;
 mod timed;
 mod tokio_nodes;
 
-pub use gather::{Gather, block_on_all};
+pub use gather::Gather;
 pub use node_wire::{Fed, Outcome, Reading};
 pub use part::Part;
 pub use tokio_nodes::TokioNodes;

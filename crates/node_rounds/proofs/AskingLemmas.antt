@@ -1,6 +1,6 @@
 -- What comes of asking the nodes of a plan, put together.
-use Rattle.std.proofs.Common.{◌≡◌, ℕ, false, true, List, [], ◌∷◌, length, Option, Some, None, Result, Ok, Err, refl, sym, ap, ◌∙◌, subst}
-use Rattle.std.specs.Prelude.{All, IfOk, OnErr, map}
+use Rattle.std.proofs.Common.{◌≡◌, ℕ, false, true, List, [], ◌∷◌, Option, Some, None, Result, Ok, Err, refl, sym, ap, ◌∙◌, subst}
+use Rattle.std.specs.Prelude.{All, IfOk, OnErr}
 use Rattle.sat_base.specs.declared.nodes.Ask.{Ask}
 use Rattle.sat_base.specs.declared.nodes.Fetched.{Fetched}
 use Rattle.sat_base.specs.declared.nodes.Fetched.TheVariants as fetches

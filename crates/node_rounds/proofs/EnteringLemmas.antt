@@ -1,6 +1,6 @@
 -- The calls of a round are well formed.
 use Rattle.std.proofs.Common.{◌≡◌, ℕ, ◌<◌, ◌^◌, List, length, Option, Some, None, sym, subst}
-use Rattle.std.specs.Prelude.{IsSome, IsSomeAnd}
+use Rattle.std.specs.Prelude.{IsSome}
 use Rattle.sat_base.specs.declared.scheme.Scheme.{Scheme}
 use Rattle.repair_core.specs.declared.outcome.RepairOutcome.TheVariants as repairs
 use Rattle.machine_calls.specs.declared.call.Call.TheVariants as calls

@@ -1,6 +1,5 @@
 -- Each accepted end of a round holds the plan that was open.
-use Rattle.std.proofs.Common.{◌≡◌, ℕ, List, [], ◌∷◌, Bool, true, false, Option, Some, None, sym, ap, ◌∙◌, refl}
-use Rattle.std.specs.Prelude.{IsSomeAnd}
+use Rattle.std.proofs.Common.{◌≡◌, ℕ, List, [], ◌∷◌, true, false, Option, Some, None, sym, ap, ◌∙◌, refl}
 use Rattle.turnstile.specs.History.{Each}
 use Rattle.desk_runs.specs.Entered.{At}
 use Rattle.machine_calls.specs.declared.call.Call.{Call}

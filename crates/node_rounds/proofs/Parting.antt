@@ -1,5 +1,5 @@
 -- One part of a round, put together.
-use Rattle.std.proofs.Common.{◌≡◌, ℕ, ◌+◌, ◌<◌, ◌≤◌, List, [], ◌∷◌, ◌++◌, length, Bool, true, false, Option, Some, None, Result, Ok, Err, refl, sym, ap, ◌∙◌, subst, arith, length-append}
+use Rattle.std.proofs.Common.{◌≡◌, ℕ, ◌+◌, ◌<◌, ◌≤◌, List, [], ◌∷◌, length, Bool, true, false, Option, Some, None, Result, Ok, Err, refl, sym, ap, ◌∙◌, subst, arith, length-append}
 use Rattle.std.specs.Prelude.{map, vec_capacity}
 use Rattle.std.specs.Global.{Vec}
 use Rattle.std.proofs.lemmas.List.{length-map}
@@ -19,10 +19,10 @@ use Rattle.sat_rounds.specs.Sessions.{V}
 use Rattle.sat_rounds.specs.declared.rounds.RoundEnd.{RoundEnd}
 use Rattle.sat_rounds.specs.declared.rounds.RoundEnd.TheVariants as ends
 use Rattle.node_rounds.specs.Askable.{IsAskable}
-use Rattle.node_rounds.specs.Calls.{IfFull, Makes, Names, Turns}
+use Rattle.node_rounds.specs.Calls.{IfFull, Names, Turns}
 use Rattle.node_rounds.specs.Entering.{FailsToOpen, Finishes, Opens, went_after}
-use Rattle.node_rounds.specs.Parts.{S, Asks, FailsToDraw, Follows, Part, Planned, Timed}
-use Rattle.node_rounds.specs.Upkeep.{end_call, is_plan_of, is_refusal_to_stop, plan_call, stops_by, went_at, words_of}
+use Rattle.node_rounds.specs.Parts.{S, Asks, Follows, Part, Planned, Timed}
+use Rattle.node_rounds.specs.Upkeep.{end_call, is_plan_of, is_refusal_to_stop, plan_call, stops_by, went_at}
 use Rattle.node_rounds.specs.Works.{Does}
 use Rattle.node_rounds.specs.declared.upkeep.Found.{Found}
 use Rattle.node_rounds.specs.declared.upkeep.Upkeep.{Upkeep}

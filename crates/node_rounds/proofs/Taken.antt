@@ -1,5 +1,5 @@
 -- The moments and words of a part's calls, among those that its kit gave.
-use Rattle.std.proofs.Common.{◌≡◌, ℕ, List, [], ◌∷◌, ◌++◌, Bool, true, false, Option, Some, None, Ok, Err, refl, sym, ap, ◌∙◌, subst, inl, append-nil}
+use Rattle.std.proofs.Common.{◌≡◌, ℕ, List, [], ◌∷◌, ◌++◌, Bool, true, false, Option, Some, None, refl, sym, ap, ◌∙◌, subst, inl, append-nil}
 use Rattle.sat_base.specs.declared.scheme.Scheme.{Scheme}
 use Rattle.sat_base.specs.Clock.{or_zero}
 use Rattle.sat_base.specs.Outside.{with_front}
@@ -12,7 +12,7 @@ use Rattle.sat_rounds.specs.Rounds.{KitView, told_of_kit}
 use Rattle.sat_rounds.specs.declared.rounds.RoundEnd.{RoundEnd}
 use Rattle.sat_rounds.specs.declared.rounds.RoundEnd.TheVariants as ends
 use Rattle.sat_rounds.proofs.Among.{draws_nothing, draws_then}
-use Rattle.node_rounds.specs.Parts.{S, Drew, Ends, Follows, Lacked, Part, Plans, Readied, Timed}
+use Rattle.node_rounds.specs.Parts.{S, Follows, Lacked, Part, Readied, Timed}
 use Rattle.node_rounds.specs.Upkeep.{end_call, is_plan_of, plan_call}
 use Rattle.node_rounds.specs.Works.{Goes, Works}
 use Rattle.node_rounds.specs.declared.upkeep.Found.{Found}

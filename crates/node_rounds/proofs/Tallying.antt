@@ -1,17 +1,17 @@
 -- A round of a tally, put together.
-use Rattle.std.proofs.Common.{◌≡◌, ℕ, List, [], ◌∷◌, ◌++◌, Option, Some, Result, Ok, Err, false, refl, sym, ap, ◌∙◌, subst, inl}
+use Rattle.std.proofs.Common.{◌≡◌, ℕ, List, [], ◌∷◌, ◌++◌, Option, Some, Result, Ok, Err, refl, sym, ap, ◌∙◌, subst, inl}
 use Rattle.std.specs.Prelude.{map}
 use Rattle.std.specs.Global.{Vec}
 use Rattle.sat_base.specs.Ticks.{TicksView}
 use Rattle.turnstile.specs.Entry.{entry_of}
 use Rattle.desk_runs.specs.Entered.{place_of}
-use Rattle.desk_runs.specs.Runs.{Does, Lasts}
+use Rattle.desk_runs.specs.Runs.{Lasts}
 use Rattle.machine_calls.specs.declared.call.Call.TheVariants as calls
 use Rattle.machine_calls.specs.declared.reply.Reply.{Reply}
 use Rattle.sat_book.specs.Legal.{E}
 use Rattle.sat_book.specs.declared.opening.Opening.{Opening}
-use Rattle.sat_rounds.specs.Draws.{Draws, as_moment}
-use Rattle.sat_rounds.specs.Rounds.{KitView, RoundTells, round_full, round_places, told_of_kit}
+use Rattle.sat_rounds.specs.Draws.{as_moment}
+use Rattle.sat_rounds.specs.Rounds.{KitView, RoundDoes}
 use Rattle.sat_rounds.specs.Sessions.{V}
 use Rattle.sat_rounds.specs.declared.rounds.Round.{Round}
 use Rattle.sat_rounds.specs.declared.rounds.RoundEnd.{RoundEnd}
@@ -20,7 +20,7 @@ use Rattle.node_rounds.specs.Calls.{IfFull, Makes, Turns}
 use Rattle.node_rounds.specs.Parts.{Timed}
 use Rattle.node_rounds.specs.Tally.{TallyRounds, TallyTells, TallyWorks}
 use Rattle.node_rounds.specs.Upkeep.{end_of, went_at}
-use Rattle.node_rounds.proofs.KitLemmas.{full_marked, ticked_kit}
+use Rattle.node_rounds.proofs.KitLemmas.{full_marked}
 use Rattle.node_rounds.proofs.Making.{makes_full, makes_none, makes_one}
 use Rattle.node_rounds.proofs.Parting.{full_at}
 use Rattle.node_rounds.proofs.Rounding.{full_end}
@@ -69,23 +69,19 @@ module _ {K : Type 0} where
       made s k (record { places = new; end = end }) s' k' (e ∷ []) (went_at reply) old none (makes_one k call reply k' old new (went_at reply) one (full_at k k' reply)) end_is
       (record { moment = moment; timed = timed; call = own; end_is = end_is }) (draw_at s moment s' (calls.TallyHour (as_moment moment)) e timed own (inl (refl, tt)) tt) (ap (λ (z : T). z.ticks) timed.rest)
 
-  -- one round of a worker: a tick came, and then it was made
-  pub tally_does : (s m : T) (k : V K) (x : Round) (s' : T) (k' : V K) (opening : Option Opening) → s.ticks.over ≡ false → m ≡ ticked_kit s → TallyRounds m k x s' k'
-      → Does round_places round_full (RoundTells (TallyTells opening)) s k x s' k'
-  tally_does s m k x s' k' opening open' came r =
-      let same : m ≡ record s { ticks = s'.ticks } = came ∙ ap (λ (z : TicksView). let q : T = record s { ticks = z } in q) (sym (r.ticks ∙ ap (λ (z : T). z.ticks) came)) in
-      record {
-        new = r.new;
-        entered = r.entered;
-        named = r.named;
-        full = full_marked k k' x.end r.full;
-        tells = record {
-          not_over = open';
-          ticks_are = r.ticks ∙ ap (λ (z : T). z.ticks) came;
-          draws = subst (λ (z : T). Draws (told_of_kit z s') r.new) same r.draws;
-          tells = subst (λ (z : T). TallyWorks z r.new x.end s') same r.works;
-        };
-      }
+  -- what a round did, from whatever the kit was before its tick
+  pub tally_does : (opening : Option Opening) (s : T) (k : V K) (x : Round) (s' : T) (k' : V K) → TallyRounds s k x s' k' → RoundDoes (TallyTells opening) s k x s' k'
+  tally_does opening s k x s' k' r = record {
+    new = r.new;
+    entered = r.entered;
+    named = r.named;
+    full = full_marked k k' x.end r.full;
+    draws = r.draws;
+    ticks = r.ticks;
+    tells = λ before same.
+        let begun : s ≡ record before { ticks = s'.ticks } = sym same ∙ ap (λ (t : TicksView). let q : T = record before { ticks = t } in q) (sym r.ticks) in
+        subst (λ (z : T). TallyWorks z r.new x.end s') begun r.works;
+  }
 
 pub tally_lasts : (opening : Option Opening) → Lasts (TallyTells opening)
 tally_lasts opening s x new h h' s' starts told = told

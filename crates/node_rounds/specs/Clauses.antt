@@ -1,5 +1,5 @@
 -- What the ends of a round say of its nodes.
-use Rattle.std.specs.Prelude.{◌≡◌, ◌⊎◌, ℕ, ◌+◌, ◌-◌, ◌^◌, ◌<◌, ◌≤◌, List, length, Option, Some, None}
+use Rattle.std.specs.Prelude.{◌≡◌, ◌⊎◌, ℕ, ◌+◌, ◌-◌, ◌^◌, ◌<◌, ◌≤◌, List, length, Some, None}
 use Rattle.sha2.specs.Sha256.{sha256}
 use Rattle.sat_base.specs.declared.nodes.Ask.{Ask}
 use Rattle.sat_base.specs.declared.nodes.Held.{Held}

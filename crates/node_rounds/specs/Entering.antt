@@ -1,5 +1,5 @@
 -- What comes of entering a plan, and of entering its end.
-use Rattle.std.specs.Prelude.{◌≡◌, ℕ, ◌≤◌, List, [], ◌∷◌, Option, Some, None, Result, Ok, Err}
+use Rattle.std.specs.Prelude.{◌≡◌, ℕ, List, [], ◌∷◌, Option, Some, Result, Ok, Err}
 use Rattle.std.specs.Global.{Vec}
 use Rattle.sat_base.specs.Clock.{or_zero}
 use Rattle.sat_base.specs.Outside.{with_front}
@@ -10,7 +10,7 @@ use Rattle.sat_rounds.specs.declared.rounds.RoundEnd.{RoundEnd}
 use Rattle.sat_rounds.specs.declared.rounds.RoundEnd.TheVariants as ends
 use Rattle.node_rounds.specs.declared.upkeep.Found.{Found}
 use Rattle.node_rounds.specs.declared.upkeep.Upkeep.{Upkeep}
-use Rattle.node_rounds.specs.Calls.{Names, Turns}
+use Rattle.node_rounds.specs.Calls.{Turns}
 use Rattle.node_rounds.specs.Parts.{S, FailsToDraw, Readied}
 use Rattle.node_rounds.specs.Upkeep.{end_call, plan_call, went_at, words_of}
 

@@ -1,5 +1,5 @@
 -- What is told of each round of a worker.
-use Rattle.std.specs.Prelude.{◌≡◌, ℕ, List, Bool, Option, IsSomeAnd}
+use Rattle.std.specs.Prelude.{List, Option, IsSomeAnd}
 use Rattle.sat_base.specs.declared.scheme.Scheme.{Scheme}
 use Rattle.machine_step.specs.Step.{IsSchemeOf}
 use Rattle.sat_book.specs.Book.{start_of}

@@ -9,7 +9,7 @@ use crate::kit::{Kit, Store};
 use crate::parts::part;
 use crate::upkeep::{Upkeep, end_of};
 use bw_decode::Scratch;
-use sat_base::{Clock, Gate, Keeper, Nodes, Point, Ticks, Words};
+use sat_base::{Clock, Keeper, Nodes, Point, Ticks, Words};
 use sat_book::Book;
 use sat_rounds::{BookPass, Round, RoundEnd};
 use std::alloc::Global;
@@ -20,7 +20,7 @@ use turnstile::Desk;
 const ENTRIES: usize = 4;
 
 // Makes one part of a round, and the second one where the first didn't end it. Room for all places is made first.
-pub(crate) fn round<K: Keeper, N: Nodes, T: Clock, W: Words, I: Ticks, F: Fn(Point), R: Wait>(
+fn round<K: Keeper, N: Nodes, T: Clock, W: Words, I: Ticks, F: Fn(Point), R: Wait>(
     rt: &R,
     alloc: Global,
     desk: &Desk<Book<K>>,
@@ -84,8 +84,8 @@ pub(crate) fn round<K: Keeper, N: Nodes, T: Clock, W: Words, I: Ticks, F: Fn(Poi
 /// What it did is told by `Rounds`: its entries stand in this order, at moments and with words of the kit's own; each
 /// ask has its place's node, address and port, the stripe's range and the order of its plan under the store's keys; and
 /// it ends early only for a cause that its end names. The decoder's room was made for the store's scheme, or for one with
-/// at least as many shares.
-pub fn audit_round<K: Keeper, N: Nodes, T: Clock, W: Words, I: Ticks, G: Gate, R: Wait>(
+/// at least as many shares. `gate` passes a point.
+pub fn audit_round<K: Keeper, N: Nodes, T: Clock, W: Words, I: Ticks, F: Fn(Point), R: Wait>(
     rt: &R,
     alloc: Global,
     desk: &Desk<Book<K>>,
@@ -93,11 +93,12 @@ pub fn audit_round<K: Keeper, N: Nodes, T: Clock, W: Words, I: Ticks, G: Gate, R
     store: &Store,
     scratch: &mut Scratch,
     kit: &mut Kit<N, T, W, I>,
-    gate: &G,
+    gate: &F,
 ) -> (BookPass<K>, Round)
     requires desk { pass.desk ≡ desk.now }
     requires base { IsSomeAnd pass.base (λ origin. IsStoreOf origin.opening store.now.keys store.now.scheme) }
     requires points { store.now.scheme.n ≤ scratch.old.points }
+    requires gate { F.IsAlwaysCallable gate.now }
     ensures rounds { Rounds store.now.keys store.now.scheme Upkeep.Recheck Upkeep.Audit
         (kit_view (nodes_view N.held N.asks N.faults) T.coming W.left W.faults I.about kit.old) pass result.1
         (kit_view (nodes_view N.held N.asks N.faults) T.coming W.left W.faults I.about kit.new) result.0 }
@@ -113,7 +114,7 @@ pub fn audit_round<K: Keeper, N: Nodes, T: Clock, W: Words, I: Ticks, G: Gate, R
         Upkeep::Recheck,
         Upkeep::Audit,
         kit,
-        &|point| gate.pass(point),
+        gate,
     )
 }
 
@@ -122,7 +123,7 @@ pub fn audit_round<K: Keeper, N: Nodes, T: Clock, W: Words, I: Ticks, G: Gate, R
 /// end. The second follows also where nothing was to be repaired.
 ///
 /// What it did is told by `Rounds`, as for [`audit_round`]. A target is told as placed only where it kept its piece.
-pub fn repair_round<K: Keeper, N: Nodes, T: Clock, W: Words, I: Ticks, G: Gate, R: Wait>(
+pub fn repair_round<K: Keeper, N: Nodes, T: Clock, W: Words, I: Ticks, F: Fn(Point), R: Wait>(
     rt: &R,
     alloc: Global,
     desk: &Desk<Book<K>>,
@@ -130,11 +131,12 @@ pub fn repair_round<K: Keeper, N: Nodes, T: Clock, W: Words, I: Ticks, G: Gate, 
     store: &Store,
     scratch: &mut Scratch,
     kit: &mut Kit<N, T, W, I>,
-    gate: &G,
+    gate: &F,
 ) -> (BookPass<K>, Round)
     requires desk { pass.desk ≡ desk.now }
     requires base { IsSomeAnd pass.base (λ origin. IsStoreOf origin.opening store.now.keys store.now.scheme) }
     requires points { store.now.scheme.n ≤ scratch.old.points }
+    requires gate { F.IsAlwaysCallable gate.now }
     ensures rounds { Rounds store.now.keys store.now.scheme Upkeep.Repair Upkeep.Exit
         (kit_view (nodes_view N.held N.asks N.faults) T.coming W.left W.faults I.about kit.old) pass result.1
         (kit_view (nodes_view N.held N.asks N.faults) T.coming W.left W.faults I.about kit.new) result.0 }
@@ -150,6 +152,6 @@ pub fn repair_round<K: Keeper, N: Nodes, T: Clock, W: Words, I: Ticks, G: Gate, 
         Upkeep::Repair,
         Upkeep::Exit,
         kit,
-        &|point| gate.pass(point),
+        gate,
     )
 }

@@ -7,7 +7,6 @@
 //! - **Lanes**: [`TcpLane`], the connections that come to a port of 127.0.0.1, each a [`TcpLink`]. It takes and reads up to
 //!   4096 of them side by side while it waits, so a client that says nothing holds nobody: a link is handed out once its
 //!   request is decided, or its client sends no more. What a client doesn't take of its answer is written in the same way.
-//! - **Nodes**: [`NodeLink`], storage nodes over TCP that are asked one at a time, by `node_wire`.
 //! - **Time and chance**: [`SystemClock`], which gives its last moment again where the machine's can't be read,
 //!   [`SleepTicks`], and [`MachineWords`] from the system's source of random numbers.
 //!
@@ -18,11 +17,10 @@
 //! thirty is closed, too. Where its answer is written it is read on for up to
 //! two seconds, so that bytes which nobody read don't lose the answer. Where places, files or memory are wanting, the
 //! connection that came first of those whose requests aren't whole makes room. An error of the system ends a lane only
-//! where it says that the port takes no connection any more. A node is asked for ten seconds at most.
+//! where it says that the port takes no connection any more.
 //!
-//! Not promised: what a terminal, a file, a client or a node sends, that a request reaches a node, that a call returns,
-//! how long it takes, that words are random, or that a failed call of the system is answered as failed. `trial_devices`
-//! and `trial_gather` try these.
+//! Not promised: what a terminal, a file or a client sends, that a call returns, how long it takes, that words are random,
+//! or that a failed call of the system is answered as failed. `trial_devices` tries these.
 #![tactic(auto)]
 
 mod arriving;
@@ -32,7 +30,6 @@ mod guests;
 mod leaving;
 mod luck;
 mod machine_words;
-mod node_link;
 mod once;
 mod sleep_ticks;
 mod system_clock;
@@ -41,11 +38,9 @@ mod tcp_link;
 mod time_limit;
 mod watched;
 mod whole;
-mod within;
 
 pub use console::Console;
 pub use machine_words::MachineWords;
-pub use node_link::NodeLink;
 pub use sleep_ticks::SleepTicks;
 pub use system_clock::SystemClock;
 pub use tcp_lane::TcpLane;

@@ -8,7 +8,7 @@ use std::alloc::Global;
 /// Storage nodes in memory, of which some keep other bytes than they are given. They tell no content. What was uploaded
 /// to them is noted, so that the pieces that are put later are compared with it.
 #[derive(Drop)]
-pub(crate) struct Altering {
+pub struct Altering {
     nodes: MemNodes,
     pub uploads: Uploads,
 }

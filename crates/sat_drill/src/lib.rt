@@ -25,4 +25,6 @@ mod steady;
 mod telling;
 mod uploads;
 
+pub use altering::Altering;
 pub use drilling::{Drilled, drill};
+pub use uploads::Uploads;

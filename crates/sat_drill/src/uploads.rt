@@ -18,7 +18,7 @@ struct Upload {
 
 /// The segments that were uploaded and committed, and how many pieces that were put later weren't theirs.
 #[derive(Drop)]
-pub(crate) struct Uploads {
+pub struct Uploads {
     scheme: Scheme,
     // by rising id
     all: Vec<Upload>,

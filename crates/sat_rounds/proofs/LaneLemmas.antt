@@ -1,6 +1,6 @@
 -- Sessions, one after another.
 use Rattle.std.proofs.Common.{◌≡◌, ℕ, suc, zero, ◌+◌, List, [], ◌∷◌, ◌++◌, length, Bool, true, false, Some, refl, sym, ap, ◌∙◌, subst, arith, length-append}
-use Rattle.std.specs.Prelude.{slice_get, Option, IsSome, ◌||◌}
+use Rattle.std.specs.Prelude.{slice_get, Option, IsSome}
 use Rattle.sat_base.specs.Lane.{LaneView, handed, got_back}
 use Rattle.sat_base.specs.Outside.{About}
 use Rattle.turnstile.specs.History.{StartsWith}
@@ -18,6 +18,7 @@ use Rattle.sat_rounds.specs.declared.told.Session.{Session}
 use Rattle.sat_rounds.specs.declared.told.SessionEnd.{SessionEnd}
 use Rattle.sat_rounds.specs.declared.told.SessionEnd.TheVariants as ends
 use Rattle.sat_rounds.proofs.Ending.{connects_later, stops_later}
+use Rattle.sat_rounds.proofs.LastOf.{met_more}
 
 pub lane_lasts : (secret : List ℕ) (term : ℕ) → Lasts (LaneTells secret term)
 lane_lasts secret term s x new h h' s' t a = record {
@@ -67,21 +68,6 @@ does_one secret term s s' k k' x link link_after same open' lane h = record {
   };
 }
 
-neither_of : (a b : Bool) → (a || b) ≡ false → (a ≡ false) × (b ≡ false)
-neither_of true b h = absurd (cc)
-neither_of false b h = (refl, h)
-
--- the last one is met where none before it was
-met_more : (xs : List Session) (y : Session) → some_is session_full xs ≡ false → some_is session_full (xs ++ y ∷ []) ≡ session_full y
-met_more [] y none = go (session_full y)
-  where
-    go : (b : Bool) → b || false ≡ b
-    go true = refl
-    go false = refl
-met_more (x ∷ xs) y none =
-    let both = neither_of (session_full x) (some_is session_full xs) none in
-    ap (λ (b : Bool). b || some_is session_full (xs ++ y ∷ [])) both.0 ∙ met_more xs y both.1
-
 -- a session that stops its worker has an entry
 stops_unfull : (end : SessionEnd) (history : List E) → StopsAt end history → is_full end ≡ false
 stops_unfull (ends.Entered place sent) history h = refl
@@ -118,7 +104,7 @@ so_far_more {K} secret desk s0 k0 xs n s k x link link_after m s' k' zs ys far o
       some = subst (λ (b : Option (Origin K)). IsSome b) (sym h.entered.rights.base) far.some;
       count = ap length grew ∙ (length-append xs (x ∷ []) ∙ (let c = far.count in omega arith));
       numbered = subst AreNumbered (sym grew) (numbered_more xs x n far.numbered far.count num);
-      met_is = ap (some_is session_full) grew ∙ met_more xs x far.met_is;
+      met_is = ap (some_is session_full) grew ∙ met_more session_full xs x far.met_is;
     }
 
 pub far_on : {K : Type 0} (secret : List ℕ) (desk : DeskId) (s0 : PostView) (k0 : V K) (xs : List Session) (n : ℕ) (s : PostView) (k : V K) {met : Bool} → met ≡ false → SoFar secret desk s0 k0 xs n s k met → SoFar secret desk s0 k0 xs n s k false

@@ -5,4 +5,6 @@ pub mod Ending
 pub mod Answering
 pub mod Stopping
 pub mod GoodAnswers
+pub mod LastOf
 pub mod LaneLemmas
+pub mod RoundLemmas

@@ -1,7 +1,9 @@
 -- What a worker of rounds comes to, whatever a round is.
-use Rattle.std.specs.Prelude.{◌≡◌, ℕ, List, [], ◌∷◌, ◌++◌, Bool, true, false, Option}
+use Rattle.std.specs.Prelude.{◌≡◌, ℕ, List, [], ◌∷◌, ◌++◌, map, Bool, true, false, Option}
 use Rattle.sat_base.specs.Outside.{raised}
-use Rattle.sat_base.specs.Ticks.{TicksView}
+use Rattle.sat_base.specs.Ticks.{Beats, TicksView}
+use Rattle.sat_base.specs.declared.ticks.Beat.{Beat}
+use Rattle.desk_runs.specs.Entered.{Entered, Marked, place_of}
 use Rattle.desk_runs.specs.Runs.{Lasts, Runs, some_is}
 use Rattle.sat_book.specs.Legal.{E}
 use Rattle.sat_rounds.specs.Draws.{Draws}
@@ -50,6 +52,22 @@ module _ {N : Type 0} where
   -- what the clock and the source of words of a kit tell before and after
   abbrev pub told_of_kit : KitView N → KitView N → Told
   told_of_kit s s' = record { coming = s.coming; coming_after = s'.coming; words = s.words; words_after = s'.words; faults = s.words_faults; faults_after = s'.words_faults }
+
+  -- a wait for a tick changes what is told of the ticks, and nothing else
+  pub record KitBeats (s : KitView N) (beat : Beat) (s' : KitView N) : Type 0 where
+    pub beats : Beats s.ticks beat s'.ticks
+    pub rest : s' ≡ record s { ticks = s'.ticks }
+
+  -- One round, from where its tick left the kit: it made just the entries that it names, at moments and with words of the
+  -- kit's own, and took no tick; and it was as this says of the kit before the tick, whose ticks alone were others.
+  pub record RoundDoes {K : Type 0} (Tells : KitView N → Round → List E → List E → KitView N → Type 0) (s : KitView N) (k : V K) (x : Round) (s' : KitView N) (k' : V K) : Type 0 where
+    pub new : List E
+    pub entered : Entered k new k'
+    pub named : map place_of new ≡ round_places x
+    pub full : round_full x ≡ true → Marked k'
+    pub draws : Draws (told_of_kit s s') new
+    pub ticks : s'.ticks ≡ s.ticks
+    pub tells : (before : KitView N) → record before { ticks = s.ticks } ≡ s → Tells before x new k'.seen s'
 
   -- one round of a worker: a tick came, its calls were entered at moments and with words of the kit's own, and it was as this says
   pub record RoundTells (Tells : KitView N → Round → List E → List E → KitView N → Type 0) (s : KitView N) (x : Round) (new history : List E) (s' : KitView N) : Type 0 where

@@ -3,8 +3,8 @@ ghost use Rattle.std.specs.Prelude.{◌≡◌, IsSome};
 ghost use Rattle.sat_rounds.specs.Lanes.{LaneRan, post_view};
 ghost use Rattle.sat_rounds.specs.Sessions;
 
-use crate::serving::{Served, serve};
-use crate::told::{BookPass, Session, SessionEnd};
+use crate::serving::session;
+use crate::told::{BookPass, Session, SessionEnd, SessionWorked};
 use order_limits::Keys;
 use sat_base::{Came, Clock, Gate, Keeper, Lane, Words};
 use sat_book::Book;
@@ -100,11 +100,11 @@ fn serve_lane<K: Keeper, L: Lane, T: Clock, W: Words, G: Gate, R: Wait>(
                 end: LaneEnd::Failed,
             },
         };
-        let Served {
+        let SessionWorked {
             pass: after,
-            end,
+            session: served,
             stops,
-        } = serve(
+        } = session(
             rt,
             alloc,
             desk,
@@ -115,10 +115,11 @@ fn serve_lane<K: Keeper, L: Lane, T: Clock, W: Words, G: Gate, R: Wait>(
             &mut post.words,
             gate,
             lane,
+            number,
         );
         post.lane.back(link);
         pass = after;
-        sessions.push_reserved(Session { number, end });
+        sessions.push_reserved(served);
         if stops {
             return LaneWorked {
                 pass,
@@ -127,7 +128,7 @@ fn serve_lane<K: Keeper, L: Lane, T: Clock, W: Words, G: Gate, R: Wait>(
                 end: LaneEnd::Stopped,
             };
         }
-        if is_full(end) {
+        if is_full(served.end) {
             return LaneWorked {
                 pass,
                 post,

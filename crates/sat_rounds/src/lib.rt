@@ -31,4 +31,4 @@ pub use listening::{Listened, draw, listen};
 pub use rounds::{Round, RoundEnd, RoundKit, RoundsEnd, RoundsWorked};
 pub use serving::session;
 pub use speaking::{Said, speak};
-pub use told::{BookPass, Session, SessionEnd};
+pub use told::{BookPass, Session, SessionEnd, SessionWorked};

@@ -11,7 +11,7 @@ ghost use Rattle.sat_rounds.specs.declared.listening.Listened.{Listened};
 use crate::laws::good_requests_are_answered;
 use crate::listening::{Listened, listen};
 use crate::speaking::{Said, speak};
-use crate::told::{BookPass, Session, SessionEnd};
+use crate::told::{BookPass, Session, SessionEnd, SessionWorked};
 use machine_calls::{Call, Refusal, Reply};
 use order_limits::Keys;
 use sat_base::{Clock, Gate, Keeper, Link, Point, Words};
@@ -20,11 +20,11 @@ use std::alloc::Global;
 use std::sync::Wait;
 use turnstile::{Desk, Turned};
 
-/// What a session came to. `stops` tells that the machine stops or has stopped.
-pub(crate) struct Served<K> {
-    pub pass: BookPass<K>,
-    pub end: SessionEnd,
-    pub stops: bool,
+// What an answer came to. `stops` tells that the machine stops or has stopped.
+struct Replied<K> {
+    pass: BookPass<K>,
+    end: SessionEnd,
+    stops: bool,
 }
 
 /// Reads one request of a connection, takes the moment, and 128 random words where a segment is to begin; passes the
@@ -45,7 +45,7 @@ pub fn session<K: Keeper, N: Link, T: Clock, W: Words, G: Gate, R: Wait>(
     gate: &G,
     lane: u16,
     number: u64,
-) -> (BookPass<K>, Session)
+) -> SessionWorked<K>
     requires desk { pass.desk ≡ desk.now }
     requires base { IsSome pass.base }
     ensures serves { Serves keys.now pass (record {
@@ -55,7 +55,7 @@ pub fn session<K: Keeper, N: Link, T: Clock, W: Words, G: Gate, R: Wait>(
       words_after = W.left words.new;
       faults = W.faults words.old;
       faults_after = W.faults words.new;
-    }) (N.about link.old) (N.about link.new) result.1.end result.0 }
+    }) (N.about link.old) (N.about link.new) result.session.end result.pass }
     ensures good { IfSome pass.base (λ origin. IsGood keys.now (start_of origin.opening) (record {
       coming = T.coming clock.old;
       coming_after = T.coming clock.new;
@@ -63,50 +63,22 @@ pub fn session<K: Keeper, N: Link, T: Clock, W: Words, G: Gate, R: Wait>(
       words_after = W.left words.new;
       faults = W.faults words.old;
       faults_after = W.faults words.new;
-    }) (N.about link.old) (N.about link.new) result.0.seen result.1.end
-        → IsAnswered keys.now (start_of origin.opening) (N.about link.old) (N.about link.new) result.0.seen result.1.end) }
-    ensures number { result.1.number ≡ number }
+    }) (N.about link.old) (N.about link.new) result.pass.seen result.session.end
+        → IsAnswered keys.now (start_of origin.opening) (N.about link.old) (N.about link.new) result.pass.seen result.session.end) }
+    ensures stopped { IfStops result.stops result.session.end result.pass.seen }
+    ensures number { result.session.number ≡ number }
 {
     good_requests_are_answered();
-    let served = serve(rt, alloc, desk, pass, keys, link, clock, words, gate, lane);
-    let Served {
-        pass,
-        end,
-        stops: _,
-    } = served;
-    (pass, Session { number, end })
-}
-
-// The session, and whether the machine stops.
-pub(crate) fn serve<K: Keeper, N: Link, T: Clock, W: Words, G: Gate, R: Wait>(
-    rt: &R,
-    alloc: Global,
-    desk: &Desk<Book<K>>,
-    pass: BookPass<K>,
-    keys: &Keys,
-    link: &mut N,
-    clock: &mut T,
-    words: &mut W,
-    gate: &G,
-    lane: u16,
-) -> Served<K>
-    requires desk { pass.desk ≡ desk.now }
-    requires base { IsSome pass.base }
-    ensures serves { Serves keys.now pass (record {
-      coming = T.coming clock.old;
-      coming_after = T.coming clock.new;
-      words = W.left words.old;
-      words_after = W.left words.new;
-      faults = W.faults words.old;
-      faults_after = W.faults words.new;
-    }) (N.about link.old) (N.about link.new) result.end result.pass }
-    ensures stopped { IfStops result.stops result.end result.pass.seen }
-{
     let heard = listen(alloc, keys, link, clock, words);
     gate.pass(Point::SessionRead { lane });
-    let served = answer_to(rt, alloc, desk, pass, keys, link, heard);
+    let replied = answer_to(rt, alloc, desk, pass, keys, link, heard);
     gate.pass(Point::SessionSent { lane });
-    served
+    let Replied { pass, end, stops } = replied;
+    SessionWorked {
+        pass,
+        session: Session { number, end },
+        stops,
+    }
 }
 
 // Answers what was heard: a call by what its turn gives, and all else by why there is none.
@@ -118,7 +90,7 @@ fn answer_to<K: Keeper, N: Link, R: Wait>(
     keys: &Keys,
     link: &mut N,
     heard: Listened,
-) -> Served<K>
+) -> Replied<K>
     requires desk { pass.desk ≡ desk.now }
     requires base { IsSome pass.base }
     requires formed { IfCall heard IsAsked }
@@ -139,10 +111,10 @@ fn answer_to<K: Keeper, N: Link, R: Wait>(
 }
 
 // A session that entered nothing.
-fn without_turn<K>(pass: BookPass<K>, end: SessionEnd) -> Served<K>
+fn without_turn<K>(pass: BookPass<K>, end: SessionEnd) -> Replied<K>
     ensures { (result.pass ≡ pass) × (result.end ≡ end) × (result.stops ≡ false) }
 {
-    Served {
+    Replied {
         pass,
         end,
         stops: false,
@@ -158,7 +130,7 @@ fn answer_call<K: Keeper, N: Link, R: Wait>(
     keys: &Keys,
     link: &mut N,
     call: Call,
-) -> Served<K>
+) -> Replied<K>
     requires desk { pass.desk ≡ desk.now }
     requires base { IsSome pass.base }
     requires formed { IsAsked call }
@@ -169,7 +141,7 @@ fn answer_call<K: Keeper, N: Link, R: Wait>(
             let Answered { place, reply } = answered;
             let stops = stops_at(&reply);
             let sent = speak(alloc, keys, link, &Said::Reply(reply));
-            Served {
+            Replied {
                 pass,
                 end: SessionEnd::Entered { place, sent },
                 stops,
@@ -177,7 +149,7 @@ fn answer_call<K: Keeper, N: Link, R: Wait>(
         }
         Turned::TermFull(pass, ticket) => {
             let sent = speak(alloc, keys, link, &Said::Term);
-            Served {
+            Replied {
                 pass,
                 end: SessionEnd::TermFull { ticket, sent },
                 stops: false,

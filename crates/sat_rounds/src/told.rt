@@ -28,3 +28,10 @@ pub struct Session {
     pub number: u64,
     pub end: SessionEnd,
 }
+
+/// What a session leaves: its pass, what it tells, and whether it was told that the machine stops or has stopped.
+pub struct SessionWorked<K> {
+    pub pass: BookPass<K>,
+    pub session: Session,
+    pub stops: bool,
+}

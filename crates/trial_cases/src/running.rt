@@ -6,7 +6,7 @@ ghost use Rattle.node_rounds.specs.Askable.{IsStoreOf};
 use bw_decode::Scratch;
 use machine_calls::Call;
 use node_rounds::{Kit, Store, TallyKit, audit_round, repair_round, tally_round};
-use sat_base::{KeeperMem, MemClock, MemNodes, MemTicks, MemWords, OpenGate};
+use sat_base::{Gate, KeeperMem, MemClock, MemNodes, MemTicks, MemWords, OpenGate};
 use sat_book::{Book, Entry};
 use sat_rounds::{BookPass, Round};
 use std::alloc::Global;
@@ -100,9 +100,10 @@ fn round_at<R: Wait>(
     ensures { SameRights pass result.0 }
 {
     let gate = OpenGate::of();
+    let passing = |point| gate.pass(point);
     match which {
-        Which::Audit => audit_round(rt, alloc, desk, pass, store, scratch, kit, &gate),
-        Which::Repair => repair_round(rt, alloc, desk, pass, store, scratch, kit, &gate),
+        Which::Audit => audit_round(rt, alloc, desk, pass, store, scratch, kit, &passing),
+        Which::Repair => repair_round(rt, alloc, desk, pass, store, scratch, kit, &passing),
         Which::Tally => tally_at(rt, alloc, desk, pass, kit),
     }
 }

@@ -1,8 +1,16 @@
 // Futures that count their polls, and are ready at one of them.
+ghost use Rattle.std.specs.Prelude.{All};
+
 use futures::Future;
+use futures::executor::block_on;
 use futures::task::{Context, Poll};
-use gather::block_on_all;
+use gather::Gather;
+use std::alloc::AllocGlobal;
 use std::cell::Cell;
+use std::io;
+use std::io::ErrorKind;
+use std::random::RandomSource;
+use std::sync::Wait;
 use std::test::Fail;
 
 #[derive(Drop)]
@@ -22,6 +30,19 @@ impl Future for Nth<'_> {
         }
         self.left -= 1;
         cx.yield_now()
+    }
+}
+
+// The outputs of futures that are polled together on this thread.
+fn all_ready<R, F>(rt: &R, parts: Vec<F>) -> io::Result<Vec<F::Output>>
+where
+    R: Wait + RandomSource + AllocGlobal,
+    F: Future<Output: Drop>,
+    requires { All F.can_poll parts.items }
+{
+    match Gather::new(rt.alloc(), parts) {
+        Ok(whole) => block_on(rt, whole),
+        Err(_) => Err(io::Error::from(ErrorKind::OutOfMemory)),
     }
 }
 
@@ -45,7 +66,7 @@ fn each_part_is_polled_until_it_is_ready(rt: HostRuntime) -> Result<(), Fail> {
             output: 'C'
         },
     ]?;
-    let outs = block_on_all(&rt, parts)?;
+    let outs = all_ready(&rt, parts)?;
     assert_eq!(rt; outs.as_slice(), ['A', 'B', 'C'].as_slice());
     assert_eq!(rt; counts[0].get(), 3);
     assert_eq!(rt; counts[1].get(), 1);
@@ -56,7 +77,7 @@ fn each_part_is_polled_until_it_is_ready(rt: HostRuntime) -> Result<(), Fail> {
 #[test]
 fn no_parts_give_no_outputs(rt: HostRuntime) -> Result<(), Fail> {
     let parts: Vec<Nth<'_>> = Vec::new(rt.alloc());
-    assert!(rt; block_on_all(&rt, parts)?.is_empty());
+    assert!(rt; all_ready(&rt, parts)?.is_empty());
     Ok(())
 }
 
@@ -81,7 +102,7 @@ fn outputs_stand_in_asking_order(rt: HostRuntime) -> Result<(), Fail> {
                 output: 'C'
             },
         ]?;
-        let outs = block_on_all(&rt, parts)?;
+        let outs = all_ready(&rt, parts)?;
         assert_eq!(rt; outs.as_slice(), ['A', 'B', 'C'].as_slice());
         assert_eq!(rt; count.get(), 6);
     }

@@ -1,4 +1,4 @@
-//! Cases of asking storage nodes: gathers, readings, and asks over loopback, by `gather` and by `sat_devices`. The nodes
+//! Cases of asking storage nodes: gathers, readings, and asks over loopback. The nodes
 //! of the cases are listeners in threads of their own, at ports that the system picks.
 //!
 //! Expected values are those of the formats, by hand.
@@ -8,8 +8,6 @@
 mod deliveries;
 #[cfg(test)]
 mod gathers;
-#[cfg(test)]
-mod links;
 #[cfg(test)]
 mod node;
 #[cfg(test)]

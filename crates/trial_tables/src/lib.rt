@@ -1,4 +1,4 @@
-//! Cases of the ground, of orders, of the tables, of placement and of pay: months at their borders, schemes, numbers in
+//! Cases of the ground, of orders, of the tables, of placement, of pay and of a drill's nodes: months at their borders, schemes, numbers in
 //! digits, what the outside's forms in memory answer, worked examples, rows that come in any order, and a plain placement to
 //! compare with. They stand here, so that the crates below are proved once and not again with their tests.
 #![tactic(auto)]
@@ -11,6 +11,8 @@ mod closings;
 mod commits;
 #[cfg(test)]
 mod consoles;
+#[cfg(test)]
+mod drills;
 #[cfg(test)]
 mod index;
 #[cfg(test)]

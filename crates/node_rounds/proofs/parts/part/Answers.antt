@@ -1,4 +1,4 @@
-use Rattle.std.proofs.Common.{Result, Option, Some, refl, sym, ◌∙◌, subst}
+use Rattle.std.proofs.Common.{Result, Option, refl, sym, ◌∙◌, subst}
 use Rattle.sat_base.specs.declared.no_memory.NoMemory.{NoMemory}
 use Rattle.machine_calls.specs.declared.reply.Reply.{Reply}
 use Rattle.sat_rounds.specs.declared.rounds.RoundEnd.{RoundEnd}
