@@ -9,6 +9,7 @@ use sat_base::{
 use sat_devices::{MachineWords, SleepTicks, SystemClock, TcpLane};
 use satellite_cli::{Ended, Kit, Post, World, satellite};
 use std::alloc::Global;
+use std::io::ErrorKind;
 use std::sync::Wait;
 use std::thread::Threads;
 
@@ -64,6 +65,7 @@ pub fn bound(
         let port = port.saturating_add(number);
         let lane = match TcpLane::listen(rt, port) {
             Ok(lane) => lane.served(service.share()?),
+            Err(e) if e.kind() == ErrorKind::OutOfMemory => return Err(StartErr::NoMemory),
             Err(e) => {
                 // It stands whether that can be told or not.
                 let _ = eprintln!(rt; "satellite: port {port}: {e}");
