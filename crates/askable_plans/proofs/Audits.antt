@@ -1,8 +1,9 @@
 -- Planned audits and rechecks.
-use Rattle.std.proofs.Common.{◌≡◌, ℕ, ◌%◌, ◌<◌, ◌≤◌, ◌^◌, Bool, true, false, List, [], ◌∷◌, Option, Some, None, refl, sym, ap, subst, ◌∙◌, arith}
+use Rattle.std.proofs.Common.{◌≡◌, ℕ, ◌<◌, ◌^◌, Bool, true, false, List, [], ◌∷◌, Option, Some, None, refl, sym, ap, subst, ◌∙◌, arith}
 use Rattle.std.specs.Prelude.{if◌then◌else◌, slice_index}
 use Rattle.std.specs.List.{list_all}
 use Rattle.std.proofs.lemmas.Bool.Decides.{nat_tests}
+use Rattle.std.proofs.lemmas.Bool.{and_parts}
 use Rattle.sat_base.specs.declared.records.Containment.{Containment}
 use Rattle.sat_base.specs.declared.requests.Place.{Place}
 use Rattle.sat_base.specs.declared.scheme.Scheme.{Scheme}
@@ -13,6 +14,7 @@ use Rattle.audit_core.specs.declared.plan.AuditPlan.{AuditPlan}
 use Rattle.audit_core.specs.declared.rechecking.RecheckPlan.{RecheckPlan}
 use Rattle.machine_calls.specs.declared.call.Call.{Call}
 use Rattle.machine_calls.specs.declared.call.Call.TheVariants as calls
+use Rattle.machine_calls.specs.declared.task.Task.TheVariants as tasks
 use Rattle.machine_calls.specs.declared.refusal.Refusal.TheVariants as refusals
 use Rattle.machine_calls.specs.declared.refusal.TableName.TheVariants as names
 use Rattle.machine_calls.specs.declared.reply.Reply.{Reply}
@@ -29,7 +31,6 @@ use Rattle.machine_step.specs.Plans.{has_no_plan}
 use Rattle.machine_step.specs.Step.{IsSchemeOf, case_of, risen, step}
 use Rattle.machine_step.specs.Tables.{Tables, segment_at}
 use Rattle.machine_step.proofs.Drawn.{live-found}
-use Rattle.machine_step.proofs.RowLemmas.{both}
 use Rattle.machine_step.proofs.Validity.{all_stand, steady_of}
 use Rattle.machine_plans.proofs.Steps.{reply_of}
 use Rattle.askable_plans.specs.Askable.{IsAuditable, IsRecheckable}
@@ -75,22 +76,22 @@ module _ (t : Tables) (v : IsValid t) (scheme : Scheme) (own : IsSchemeOf t.setu
       go (Some segment) is h = numbered segment is (has_no_plan t.marks) h
 
 pub audit_askable : (t : Tables) (scheme : Scheme) (now : ℕ) (words : List ℕ) (plan : AuditPlan) (places : List Place) → IsValid t → IsSchemeOf t.setup scheme
-    → (step t (calls.PlanAudit now words)).reply ≡ replies.AuditPlanned plan places → IsAuditable scheme plan places
-audit_askable t scheme now words plan places v own h = audit_case t v scheme own (risen t now) words plan places (case_reply t (calls.PlanAudit now words) (replies.AuditPlanned plan places) (λ e. cc) h)
+    → (step t (calls.Own now (tasks.PlanAudit words))).reply ≡ replies.AuditPlanned plan places → IsAuditable scheme plan places
+audit_askable t scheme now words plan places v own h = audit_case t v scheme own (risen t now) words plan places (case_reply t (calls.Own now (tasks.PlanAudit words)) (replies.AuditPlanned plan places) (λ e. cc) h)
 
 module _ (t : Tables) (v : IsValid t) (time : ℕ) where
   first-all : (test : Containment → Bool) (rows : List Containment) (c : Containment) → list_all test rows ≡ true → first_of rows ≡ Some c → test c ≡ true
   first-all test [] c all is = cc
-  first-all test (x ∷ rows) c all is = let same : x ≡ c = cc in ap test (sym same) ∙ (both (test x) (list_all test rows) all).0
+  first-all test (x ∷ rows) c all is = let same : x ≡ c = cc in ap test (sym same) ∙ (and_parts (test x) (list_all test rows) all).0
 
   recheck_fits : (c : Containment) → first_of t.containments ≡ Some c → IsRecheckable (recheck_of t time c) (place_at t.nodes (place_of c))
   recheck_fits c is = record { node = refl; index = refl; stripe = go (segment_at t.segments c.segment.0) refl live owed }
     where
       live : has_live_piece (segment_at t.segments c.segment.0) (place_of c) ≡ true
-      live = (both (serves (node_at t.nodes c.node)) (has_live_piece (segment_at t.segments c.segment.0) (place_of c)) (first-all (stands t) t.containments c (all_stand t v) is)).1
+      live = (and_parts (serves (node_at t.nodes c.node)) (has_live_piece (segment_at t.segments c.segment.0) (place_of c)) (first-all (stands t) t.containments c (all_stand t v) is)).1
 
       owed : has_stripe t.setup (segment_at t.segments c.segment.0) c.stripe ≡ true
-      owed = let o = first-all (is_owed t.setup t.segments) t.containments c (steady_of t v).containments.owed is in (both _ (has_stripe t.setup (segment_at t.segments c.segment.0) c.stripe) o).1
+      owed = let o = first-all (is_owed t.setup t.segments) t.containments c (steady_of t v).containments.owed is in (and_parts _ (has_stripe t.setup (segment_at t.segments c.segment.0) c.stripe) o).1
 
       go : (found : Option SegmentRecord) → segment_at t.segments c.segment.0 ≡ found → has_live_piece found (place_of c) ≡ true → has_stripe t.setup found c.stripe ≡ true → c.stripe < 2 ^ 40
       go None at live owed = absurd cc
@@ -114,5 +115,5 @@ module _ (t : Tables) (v : IsValid t) (time : ℕ) where
       go None is h = absurd cc
       go (Some c) is h = numbered c is (has_no_plan t.marks) h
 
-pub recheck_askable : (t : Tables) (now : ℕ) (plan : RecheckPlan) (place : Place) → IsValid t → (step t (calls.PlanRecheck now)).reply ≡ replies.RecheckPlanned plan place → IsRecheckable plan place
-recheck_askable t now plan place v h = recheck_case t v (risen t now) plan place (case_reply t (calls.PlanRecheck now) (replies.RecheckPlanned plan place) (λ e. cc) h)
+pub recheck_askable : (t : Tables) (now : ℕ) (plan : RecheckPlan) (place : Place) → IsValid t → (step t (calls.Own now tasks.PlanRecheck)).reply ≡ replies.RecheckPlanned plan place → IsRecheckable plan place
+recheck_askable t now plan place v h = recheck_case t v (risen t now) plan place (case_reply t (calls.Own now tasks.PlanRecheck) (replies.RecheckPlanned plan place) (λ e. cc) h)

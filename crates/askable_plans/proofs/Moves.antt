@@ -11,6 +11,7 @@ use Rattle.segment_core.specs.Record.{SegmentRecord, segment_rank}
 use Rattle.placement.proofs.Picks.{got-kept}
 use Rattle.repair_core.specs.declared.plan.ExitPlan.{ExitPlan}
 use Rattle.machine_calls.specs.declared.call.Call.TheVariants as calls
+use Rattle.machine_calls.specs.declared.task.Task.TheVariants as tasks
 use Rattle.machine_calls.specs.declared.refusal.Refusal.TheVariants as refusals
 use Rattle.machine_calls.specs.declared.refusal.TableName.TheVariants as names
 use Rattle.machine_calls.specs.declared.reply.Reply.TheVariants as replies
@@ -86,6 +87,6 @@ module _ (t : Tables) (v : IsValid t) (scheme : Scheme) (own : IsSchemeOf t.setu
       of_node (Some node) h = of_segment node (drop 1 words) (first_of (filter (is_movable t node.id) t.segments)) refl h
 
 pub move_askable : (t : Tables) (scheme : Scheme) (now : ℕ) (words : List ℕ) (exit : ExitPlan) (sources : List Place) (target : Place) → IsValid t → IsSchemeOf t.setup scheme
-    → (step t (calls.PlanExit now words)).reply ≡ replies.ExitPlanned exit sources target → IsRepairable scheme exit.plan sources (target ∷ [])
+    → (step t (calls.Own now (tasks.PlanExit words))).reply ≡ replies.ExitPlanned exit sources target → IsRepairable scheme exit.plan sources (target ∷ [])
 move_askable t scheme now words exit sources target v own h =
-    move_case t v scheme own (risen t now) words exit sources target (case_reply t (calls.PlanExit now words) (replies.ExitPlanned exit sources target) (λ e. cc) h)
+    move_case t v scheme own (risen t now) words exit sources target (case_reply t (calls.Own now (tasks.PlanExit words)) (replies.ExitPlanned exit sources target) (λ e. cc) h)

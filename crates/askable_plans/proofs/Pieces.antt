@@ -1,10 +1,9 @@
 -- Pieces of a segment as the places of a plan.
-use Rattle.std.proofs.Common.{◌≡◌, ℕ, zero, suc, ◌*◌, ◌/◌, ◌<◌, ◌≤◌, ◌^◌, Bool, true, false, not, List, [], ◌∷◌, length, Option, Some, None, refl, sym, ap, subst, ◌∙◌, arith}
+use Rattle.std.proofs.Common.{◌≡◌, ℕ, zero, suc, ◌<◌, ◌≤◌, ◌^◌, Bool, true, false, List, [], ◌∷◌, length, Some, refl, ap, subst, ◌∙◌, arith}
 use Rattle.std.specs.Prelude.{All, filter, find, if◌then◌else◌, nat_lt, slice_index}
-use Rattle.std.specs.List.{list_all}
-use Rattle.std.proofs.Math.Nat.{mul-div-le, mul-le-mul_left}
 use Rattle.std.proofs.lemmas.Bool.Decides.{nat_tests}
 use Rattle.std.proofs.lemmas.List.Elements.{All-nil, All-cons}
+use Rattle.std.proofs.lemmas.Bool.{not-true}
 use Rattle.sat_base.specs.declared.records.At.{At}
 use Rattle.sat_base.specs.declared.scheme.Scheme.{Scheme}
 use Rattle.sat_base.specs.Scheme.{stripe_count}
@@ -25,6 +24,7 @@ use Rattle.machine_step.proofs.Fits.{fine_found}
 use Rattle.machine_step.proofs.IndexLemmas.{rising-by_index}
 use Rattle.machine_step.proofs.PieceLemmas.{all-filtered}
 use Rattle.node_asks.specs.Asks.{pieces_of}
+use Rattle.machine_step.proofs.SegmentSizes.{size-most}
 
 -- the places of pieces are theirs
 pub pieces_are : (nodes : List Node) (pieces : List At) → pieces_of (places_of nodes pieces) ≡ pieces
@@ -61,17 +61,6 @@ find_below n test (x ∷ xs) p is below = go (test x) is (find_below n test xs p
     go true is later = let here : x.index < n = grind (arith, nat_tests, below) in let same : x ≡ p = cc in subst (λ (q : At). q.index < n) same here
     go false is later = let rest : are_below n xs ≡ true = grind (arith, nat_tests, below) in later is rest
 
-few_bytes : (setup : Setup) (len : ℕ) → 1 ≤ setup.share → setup.k ≤ 128 → is_no_size setup len ≡ false → len ≤ 2 ^ 40
-few_bytes setup len some few size =
-    let piece : setup.share * (4194304 / setup.share) ≤ 4194304 = mul-div-le 4194304 setup.share in
-    let all : setup.k * (setup.share * (4194304 / setup.share)) ≤ setup.k * 4194304 = mul-le-mul_left setup.k piece in
-    let most : len ≤ 4194304 / setup.share * setup.k * setup.share = grind (arith, nat_tests, size) in
-    omega (arith, all, most, few)
-
-not-true : (b : Bool) → not b ≡ true → b ≡ false
-not-true true h = cc
-not-true false h = refl
-
 -- the sizes of a segment that is there
 pub record IsSized (setup : Setup) (len : ℕ) : Type 0 where
   pub few : len ≤ 2 ^ 40
@@ -85,7 +74,7 @@ module _ (t : Tables) (v : IsValid t) where
       let size : is_no_size t.setup found.len ≡ false = not-true _ (fine_found t v id found at).sized in
       let some : 1 ≤ found.len = grind (arith, nat_tests, size) in
       record {
-        few = few_bytes t.setup found.len scheme.some_bytes (omega (arith, scheme.repairs_in_time, scheme.wants_more, scheme.tries_enough, scheme.few_pieces)) size;
+        few = size-most t.setup found.len scheme.some_bytes (omega (arith, scheme.repairs_in_time, scheme.wants_more, scheme.tries_enough, scheme.few_pieces)) size;
         some_stripes = some_stripes t.setup.k t.setup.share found.len scheme.rebuilds scheme.some_bytes some;
         few_stripes = few_stripes t.setup.k t.setup.share found.len scheme.rebuilds scheme.some_bytes;
       }

@@ -10,6 +10,7 @@ use Rattle.placement.specs.Eligible.{subnet_count}
 use Rattle.placement.proofs.Picks.{got-kept}
 use Rattle.repair_core.specs.declared.plan.RepairPlan.{RepairPlan}
 use Rattle.machine_calls.specs.declared.call.Call.TheVariants as calls
+use Rattle.machine_calls.specs.declared.task.Task.TheVariants as tasks
 use Rattle.machine_calls.specs.declared.refusal.Refusal.TheVariants as refusals
 use Rattle.machine_calls.specs.declared.refusal.TableName.TheVariants as names
 use Rattle.machine_calls.specs.declared.reply.Reply.TheVariants as replies
@@ -91,7 +92,7 @@ module _ (t : Tables) (v : IsValid t) (scheme : Scheme) (own : IsSchemeOf t.setu
           counted segment need at (has_no_plan t.marks) (need == 0) whole h
 
 pub repair_askable : (t : Tables) (scheme : Scheme) (now : ℕ) (words : List ℕ) (plan : RepairPlan) (sources targets : List Place) → IsValid t → now < 2 ^ 36 → IsSchemeOf t.setup scheme
-    → (step t (calls.PlanRepair now words)).reply ≡ replies.RepairPlanned plan sources targets → IsRepairable scheme plan sources targets
+    → (step t (calls.Own now (tasks.PlanRepair words))).reply ≡ replies.RepairPlanned plan sources targets → IsRepairable scheme plan sources targets
 repair_askable t scheme now words plan sources targets v timely own h =
     repair_case t v scheme own (risen t now) (omega arith) (let most = v.bounds.marks.time in omega (arith, timely, most)) words plan sources targets
-    (case_reply t (calls.PlanRepair now words) (replies.RepairPlanned plan sources targets) (λ e. cc) h)
+    (case_reply t (calls.Own now (tasks.PlanRepair words)) (replies.RepairPlanned plan sources targets) (λ e. cc) h)

@@ -1,7 +1,7 @@
 -- The parts of what was heard: each rises with the whole, and together they name each index once.
-use Rattle.std.proofs.Common.{◌≡◌, ℕ, suc, zero, ◌+◌, ◌<◌, ◌≤◌, ◌==◌, List, [], ◌∷◌, length, get_or, Bool, true, false, cond, Option, Some, None, refl, ap, sym, subst, ◌∙◌, arith}
-use Rattle.std.specs.Prelude.{All, map, filter_map, count_by, slice_index}
-use Rattle.std.specs.List.{cons_option, sum_by}
+use Rattle.std.proofs.Common.{◌≡◌, ℕ, suc, zero, ◌+◌, ◌<◌, ◌==◌, List, [], ◌∷◌, false, cond, Option, Some, None, refl, ap, sym, subst, ◌∙◌, arith}
+use Rattle.std.specs.Prelude.{All, filter_map}
+use Rattle.std.specs.List.{cons_option}
 use Rattle.std.proofs.lemmas.List.{get_or_default}
 use Rattle.std.proofs.lemmas.List.Elements.{All-nil, All-cons, All-head, All-tail}
 use Rattle.std.proofs.lemmas.List.Sums.{sum_by-cons}
@@ -11,7 +11,7 @@ use Rattle.sat_base.specs.declared.nodes.Fetched.TheVariants as fetches
 use Rattle.bw_decode.specs.Altered.{indexes_of}
 use Rattle.bw_decode.specs.Near.{Rises}
 use Rattle.audit_core.specs.declared.plan.Heard.{Heard}
-use Rattle.audit_core.specs.Heard.{answers_of, missing_of, silent_of, heard_indexes, share_in, missing_in, silent_in, is_wanting}
+use Rattle.audit_core.specs.Heard.{answers_of, missing_of, silent_of, heard_indexes, share_in, missing_in, silent_in, is_out_of_memory}
 use Rattle.audit_core.specs.Verdict.{count_of, NamesEach}
 
 -- rising numbers, item by item
@@ -127,10 +127,10 @@ pub all_silent : (P : ℕ → Type 0) (heard : List Heard) → All P (heard_inde
 all_silent P heard all = all_in silent_in silent_own P heard all
 
 -- an index more in front of a list
-count_of-cons : (index other : ℕ) (rest : List ℕ) → count_of index (other ∷ rest) ≡ cond (other == index) 1 0 + count_of index rest
+pub count_of-cons : (index other : ℕ) (rest : List ℕ) → count_of index (other ∷ rest) ≡ cond (other == index) 1 0 + count_of index rest
 count_of-cons index other rest = sum_by-cons (λ one. cond (one == index) 1 0) other rest
 
-once_more : (index own : ℕ) (what : Fetched) (rest missing silent : List ℕ) (shares : List Share) → is_wanting what ≡ false
+once_more : (index own : ℕ) (what : Fetched) (rest missing silent : List ℕ) (shares : List Share) → is_out_of_memory what ≡ false
     → count_of index rest ≡ count_of index (indexes_of shares) + count_of index missing + count_of index silent
     → cond (own == index) 1 0 + count_of index rest
     ≡ count_of index (indexes_of (cons_option (share_in own what) shares)) + count_of index (cons_option (missing_in own what) missing) + count_of index (cons_option (silent_in own what) silent)
@@ -140,11 +140,11 @@ once_more index own fetches.Missing rest missing silent shares answered before =
 once_more index own fetches.NoAnswer rest missing silent shares answered before = rw (count_of-cons index own silent) (omega (arith, before))
 once_more index own fetches.NoMemory rest missing silent shares answered before = cc
 
-pub each_once : (heard : List Heard) → All (λ one. is_wanting one.what ≡ false) heard
+pub each_once : (heard : List Heard) → All (λ one. is_out_of_memory one.what ≡ false) heard
     → NamesEach (heard_indexes heard) (indexes_of (answers_of heard)) (missing_of heard) (silent_of heard)
 each_once [] all index = refl
 each_once (one ∷ rest) all index =
     count_of-cons index one.index (heard_indexes rest)
     ∙ once_more index one.index one.what (heard_indexes rest) (missing_of rest) (silent_of rest) (answers_of rest)
-    (All-head (λ (h : Heard). is_wanting h.what ≡ false) one rest all)
-    (each_once rest (All-tail (λ (h : Heard). is_wanting h.what ≡ false) one rest all) index)
+    (All-head (λ (h : Heard). is_out_of_memory h.what ≡ false) one rest all)
+    (each_once rest (All-tail (λ (h : Heard). is_out_of_memory h.what ≡ false) one rest all) index)

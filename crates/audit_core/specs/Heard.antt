@@ -27,12 +27,12 @@ silent_in index (fetches.Share bytes) = None
 silent_in index fetches.Missing = None
 silent_in index fetches.NoMemory = None
 
--- memory was wanting for the answer
-abbrev pub is_wanting : Fetched → Bool
-is_wanting fetches.NoMemory = true
-is_wanting (fetches.Share bytes) = false
-is_wanting fetches.Missing = false
-is_wanting fetches.NoAnswer = false
+-- memory ran out for the answer
+abbrev pub is_out_of_memory : Fetched → Bool
+is_out_of_memory fetches.NoMemory = true
+is_out_of_memory (fetches.Share bytes) = false
+is_out_of_memory fetches.Missing = false
+is_out_of_memory fetches.NoAnswer = false
 
 -- the shares that came, in order
 abbrev pub answers_of : List Heard → List Share

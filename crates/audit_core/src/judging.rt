@@ -4,7 +4,7 @@ ghost use Rattle.bw_decode.specs.Altered.{indexes_of, is_altered};
 ghost use Rattle.bw_decode.specs.Near.{IsNear, Rises};
 ghost use Rattle.rs_stripe.specs.Segment.{share_of};
 ghost use Rattle.sha2.specs.Sha256.{sha256};
-ghost use Rattle.audit_core.specs.Heard.{answers_of, missing_of, silent_of, share_in, missing_in, silent_in, heard_indexes, place_indexes, is_wanting};
+ghost use Rattle.audit_core.specs.Heard.{answers_of, missing_of, silent_of, share_in, missing_in, silent_in, heard_indexes, place_indexes, is_out_of_memory};
 ghost use Rattle.sat_base.specs.declared.items.Share.{Share};
 ghost use Rattle.audit_core.specs.Verdict.{IsVerdict, IsFound, IsNoneNear, silent_indexes};
 
@@ -251,7 +251,7 @@ pub fn judge(
     requires rising { Rises (place_indexes plan.asked) }
     requires below { All (λ index. index < scheme.now.n) (place_indexes plan.asked) }
     requires heard { heard_indexes heard ≡ place_indexes plan.asked }
-    requires heard_of { All (λ one. is_wanting one.what ≡ false) heard }
+    requires heard_of { All (λ one. is_out_of_memory one.what ≡ false) heard }
     ensures scheme { IfOk result (λ judged. judged.scheme ≡ scheme.now) }
     ensures plan { IfOk result (λ judged. judged.plan ≡ plan) }
     ensures answers { IfOk result (λ judged. judged.answers ≡ answers_of heard) }

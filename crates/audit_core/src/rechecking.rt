@@ -1,5 +1,5 @@
 ghost use Rattle.std.specs.Prelude.{◌≡◌, false};
-ghost use Rattle.audit_core.specs.Heard.{is_wanting};
+ghost use Rattle.audit_core.specs.Heard.{is_out_of_memory};
 ghost use Rattle.audit_core.specs.Recheck.{checked};
 
 use sat_base::{Fetched, Moment, NodeId, SegId, Serial};
@@ -35,7 +35,7 @@ pub enum Checked {
 
 /// Whether the node passes, by what it answered.
 pub fn recheck(plan: &RecheckPlan, got: &Fetched) -> Checked
-    requires { is_wanting got.now ≡ false }
+    requires { is_out_of_memory got.now ≡ false }
     ensures { result ≡ checked plan.now.expect got.now }
 {
     match got {

@@ -71,7 +71,7 @@ fn decode_rounds(
     Ok(())
 }
 
-/// Decodes the stripe so many times. An error is want of memory, or that another stripe than the
+/// Decodes the stripe so many times. An error is that memory ran out, or that another stripe than the
 /// original is found, or none.
 pub fn decode_by_stripes(
     alloc: Global,

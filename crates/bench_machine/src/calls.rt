@@ -6,7 +6,7 @@ use crate::made::{AMOUNT, LEN, Size, customer_of, node_of, now, serial_at};
 use crate::{fold, upkeep};
 use anyhow::{Result, bail};
 use audit_core::Checked;
-use machine_calls::{Call, Reply, are_bytes};
+use machine_calls::{Call, Reply, Wish, are_bytes};
 use order_limits::{Action, Keys, Limit, Order, read_order};
 use sat_base::{Items, NodeId, SegId, Serial};
 use std::alloc::Global;
@@ -128,44 +128,53 @@ fn settle(
 ) -> Result<Answer> {
     let bytes = Items::of(Vec::from_slice(alloc, &order(keys, serial, node))?);
     are_bytes(bytes.as_slice());
-    let call = Call::Settle {
-        now: now(),
-        node,
-        bytes,
-    };
-    timed(clock, book, call)
+    let wish = Wish::Settle { node, bytes };
+    timed(clock, book, Call::of_wish(alloc, now(), wish))
 }
 
-fn get(clock: &impl Clock, book: &mut Asked, request: u64, segment: u64) -> Result<Answer> {
-    let call = Call::Get {
-        now: now(),
+fn get(
+    clock: &impl Clock,
+    alloc: Global,
+    book: &mut Asked,
+    request: u64,
+    segment: u64,
+) -> Result<Answer> {
+    let wish = Wish::Get {
         customer: customer_of(segment),
         request,
         segment: SegId(segment),
     };
-    timed(clock, book, call)
+    timed(clock, book, Call::of_wish(alloc, now(), wish))
 }
 
 fn begin(clock: &impl Clock, alloc: Global, book: &mut Asked, request: u64) -> Result<Answer> {
     let words = Vec::from_slice(alloc, &random_words(request))?;
-    let call = Call::Begin {
-        now: now(),
+    let wish = Wish::Begin {
         customer: customer_of(request),
         request,
         len: LEN,
+    };
+    let call = Call::Asked {
+        now: now(),
         words: Items::of(words),
+        wish,
     };
     timed(clock, book, call)
 }
 
-fn delete(clock: &impl Clock, book: &mut Asked, request: u64, segment: u64) -> Result<Answer> {
-    let call = Call::Delete {
-        now: now(),
+fn delete(
+    clock: &impl Clock,
+    alloc: Global,
+    book: &mut Asked,
+    request: u64,
+    segment: u64,
+) -> Result<Answer> {
+    let wish = Wish::Delete {
         customer: customer_of(segment),
         request,
         segment: SegId(segment),
     };
-    timed(clock, book, call)
+    timed(clock, book, Call::of_wish(alloc, now(), wish))
 }
 
 /// Asks the call of a kind that has this number, from 0 on. The requests of later kinds have greater numbers.
@@ -190,7 +199,7 @@ pub(crate) fn ask(
         }
         Kind::Get => {
             let segment = spread(number, size, size.segments).saturating_add(1);
-            get(clock, book, request, segment)
+            get(clock, alloc, book, request, segment)
         }
         Kind::Begin => {
             let request = request.saturating_add(size.calls);
@@ -199,9 +208,9 @@ pub(crate) fn ask(
         Kind::Delete => {
             let segment = spread(number, size, size.segments).saturating_add(2);
             let request = request.saturating_add(size.calls.saturating_mul(2));
-            delete(clock, book, request, segment)
+            delete(clock, alloc, book, request, segment)
         }
-        Kind::SetFree => upkeep::set_free(clock, book, node_of(size, number), number),
+        Kind::SetFree => upkeep::set_free(clock, alloc, book, node_of(size, number), number),
         Kind::PlanAudit => upkeep::plan_audit(clock, alloc, book, number),
         Kind::PlanRepair => upkeep::plan_repair(clock, alloc, book, number),
         Kind::PlanExit => upkeep::plan_exit(clock, alloc, book, number),

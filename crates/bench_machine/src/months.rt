@@ -4,7 +4,7 @@ use crate::dropping::Asked;
 use crate::made::{MONTH, NOW, Size, node_of};
 use crate::runs::Outcome;
 use anyhow::Result;
-use machine_calls::Call;
+use machine_calls::{Call, Task, Wish};
 use sat_base::{Moment, Month};
 use std::alloc::Global;
 use std::time::Clock;
@@ -31,26 +31,41 @@ pub(crate) struct Months {
 
 fn tally_hour(clock: &impl Clock, book: &mut Asked, at: u64) -> Result<Answer> {
     let now = Moment::of(at);
-    timed(clock, book, Call::TallyHour { now })
+    timed(
+        clock,
+        book,
+        Call::Own {
+            now,
+            task: Task::TallyHour,
+        },
+    )
 }
 
-fn close_month(clock: &impl Clock, book: &mut Asked, at: u64, month: Month) -> Result<Answer> {
-    let now = Moment::of(at);
-    timed(clock, book, Call::CloseMonth { now, month })
+fn close_month(
+    clock: &impl Clock,
+    alloc: Global,
+    book: &mut Asked,
+    at: u64,
+    month: Month,
+) -> Result<Answer> {
+    let wish = Wish::CloseMonth { month };
+    timed(clock, book, Call::of_wish(alloc, Moment::of(at), wish))
 }
 
 // The statements of the first month, of one node for each call of a kind.
 fn ask_statements(
     clock: &impl Clock,
+    alloc: Global,
     book: &mut Asked,
     size: Size,
     outcome: &mut Outcome,
 ) -> Result<()> {
     for number in 0..size.calls {
-        let call = Call::Statement {
+        let wish = Wish::Statement {
             node: node_of(size, number),
             month: Month(MONTH),
         };
+        let call = Call::of_wish(alloc, Moment::of(0), wish);
         outcome.add(timed(clock, book, call)?)?;
     }
     Ok(())
@@ -77,10 +92,10 @@ pub(crate) fn pass(
         }
         months
             .closes
-            .add(close_month(clock, book, end, Month(month))?)?;
+            .add(close_month(clock, alloc, book, end, Month(month))?)?;
         month = month.saturating_add(1);
         from = end;
     }
-    ask_statements(clock, book, size, &mut months.statements)?;
+    ask_statements(clock, alloc, book, size, &mut months.statements)?;
     Ok(months)
 }

@@ -126,7 +126,7 @@ fn print_accepted(rt: &HostRuntime, what: &str, outcome: Outcome) -> Result<()> 
 // A node fails its recheck and is disqualified. The next call counts its pieces as lost.
 fn time_loss(rt: &HostRuntime, book: &mut Asked) -> Result<()> {
     let failed = upkeep::recheck(rt, book, Checked::Fail)?.spent;
-    let behind = upkeep::set_free(rt, book, NodeId(1), 0)?.spent;
+    let behind = upkeep::set_free(rt, rt.alloc(), book, NodeId(1), 0)?.spent;
     println!(rt; "disqualified failed {failed} behind {behind}")?;
     Ok(())
 }

@@ -4,7 +4,7 @@ use crate::dropping::Asked;
 use crate::made::now;
 use anyhow::{Result, bail};
 use audit_core::{Checked, RecheckPlan};
-use machine_calls::{Call, Reply};
+use machine_calls::{Call, Reply, Task, Wish};
 use sat_base::{Items, NodeId};
 use std::alloc::Global;
 use std::time::{Clock, Instant};
@@ -12,16 +12,13 @@ use std::time::{Clock, Instant};
 /// A node tells other free bytes at each call.
 pub(crate) fn set_free(
     clock: &impl Clock,
+    alloc: Global,
     book: &mut Asked,
     node: NodeId,
     free: u64,
 ) -> Result<Answer> {
-    let call = Call::SetFree {
-        now: now(),
-        node,
-        free,
-    };
-    timed(clock, book, call)
+    let wish = Wish::SetFree { node, free };
+    timed(clock, book, Call::of_wish(alloc, now(), wish))
 }
 
 pub(crate) fn plan_audit(
@@ -31,11 +28,15 @@ pub(crate) fn plan_audit(
     seed: u64,
 ) -> Result<Answer> {
     let words = Vec::from_slice(alloc, &[seed, seed])?;
-    let call = Call::PlanAudit {
-        now: now(),
-        words: Items::of(words),
-    };
-    timed(clock, book, call)
+    let words = Items::of(words);
+    timed(
+        clock,
+        book,
+        Call::Own {
+            now: now(),
+            task: Task::PlanAudit { words },
+        },
+    )
 }
 
 pub(crate) fn plan_repair(
@@ -45,11 +46,15 @@ pub(crate) fn plan_repair(
     seed: u64,
 ) -> Result<Answer> {
     let words = Vec::from_slice(alloc, &random_words(seed))?;
-    let call = Call::PlanRepair {
-        now: now(),
-        words: Items::of(words),
-    };
-    timed(clock, book, call)
+    let words = Items::of(words);
+    timed(
+        clock,
+        book,
+        Call::Own {
+            now: now(),
+            task: Task::PlanRepair { words },
+        },
+    )
 }
 
 pub(crate) fn plan_exit(
@@ -59,15 +64,22 @@ pub(crate) fn plan_exit(
     seed: u64,
 ) -> Result<Answer> {
     let words = Vec::from_slice(alloc, &random_words(seed))?;
-    let call = Call::PlanExit {
-        now: now(),
-        words: Items::of(words),
-    };
-    timed(clock, book, call)
+    let words = Items::of(words);
+    timed(
+        clock,
+        book,
+        Call::Own {
+            now: now(),
+            task: Task::PlanExit { words },
+        },
+    )
 }
 
 fn recheck_plan(book: &mut Asked) -> Result<RecheckPlan> {
-    let Some(reply) = book.ask(Call::PlanRecheck { now: now() }) else {
+    let Some(reply) = book.ask(Call::Own {
+        now: now(),
+        task: Task::PlanRecheck,
+    }) else {
         bail!("the term is full");
     };
     match reply {
@@ -81,10 +93,9 @@ pub(crate) fn recheck(clock: &impl Clock, book: &mut Asked, checked: Checked) ->
     let start = Instant::now(clock)?;
     let plan = recheck_plan(book)?;
     let planned = start.elapsed(clock)?.as_nanos();
-    let call = Call::EndRecheck {
+    let call = Call::Own {
         now: now(),
-        plan,
-        checked,
+        task: Task::EndRecheck { plan, checked },
     };
     let ended = timed(clock, book, call)?;
     Ok(Answer {

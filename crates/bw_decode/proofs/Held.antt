@@ -1,6 +1,6 @@
 -- Shares by an encoder that holds the stripe.
 use Rattle.std.proofs.Common.{◌≡◌, ◌<◌, ◌*◌, ℕ, Bool, true, false, not, ◌&&◌, eqb, refl, List, length, sym, ap, ap₂, ◌∙◌, zero-add, slice_index}
-use Rattle.std.proofs.lemmas.Bool.{eqb-true}
+use Rattle.std.proofs.lemmas.Bool.{eqb-true, and_parts}
 use Rattle.std.specs.List.{range_with_len}
 use Rattle.std.proofs.lemmas.List.FromFn.{get_or-range_with_len, length-range_with_len}
 use Rattle.rs_stripe.specs.Encoding.{Encoding, filled}
@@ -41,15 +41,11 @@ holds : (a : Bool) → false ≡ not a → a ≡ true
 holds true e = refl
 holds false e = cc
 
-both : (a b : Bool) → (a && b) ≡ true → (a ≡ true) × (b ≡ true)
-both true b e = (refl, e)
-both false b e = cc
-
 -- schemes that don't differ have the same numbers
 pub same_numbers : (k k' m m' o o' n n' share share' : ℕ)
     → false ≡ not (eqb k k' && (eqb m m' && (eqb o o' && (eqb n n' && eqb share share'))))
     → (k ≡ k') × (n ≡ n') × (share ≡ share')
 same_numbers k k' m m' o o' n n' share share' e =
-    let all = both (eqb k k') _ (holds _ e) in
-    let last = both (eqb n n') _ (both (eqb o o') _ (both (eqb m m') _ all.1).1).1 in
+    let all = and_parts (eqb k k') _ (holds _ e) in
+    let last = and_parts (eqb n n') _ (and_parts (eqb o o') _ (and_parts (eqb m m') _ all.1).1).1 in
     (eqb-true k k' all.0, eqb-true n n' last.0, eqb-true share share' last.1)

@@ -1,7 +1,7 @@
 -- What a round of the decoding finds out about the answers.
 use Rattle.std.proofs.Common.{ℕ, zero, suc, ◌≡◌, ◌≢◌, ◌<◌, ◌≤◌, ◌+◌, ◌-◌, ◌*◌, ◌/◌, refl, sym, ap, ◌∙◌, subst, List, [], ◌∷◌, length, map, get_or, ◌⊎◌, inl, inr, arith, eqb, true, false, not, ◌||◌, Bool, slice_index, eq-eqb, All, count_by, take, ◌++◌, cond}
 use Rattle.std.proofs.Math.Nat.{mul-le-mul_left}
-use Rattle.std.proofs.lemmas.Bool.{cases_lt, eqb-true, ne_eqb}
+use Rattle.std.proofs.lemmas.Bool.{cases_lt, eqb-true, ne_eqb, or_left}
 use Rattle.std.proofs.lemmas.List.{get_or_default, get_or-take, get_or_append_left, get_or-append_right, length-take-le}
 use Rattle.std.proofs.lemmas.List.Elements.{All-get_or}
 use Rattle.sat_base.specs.declared.items.Share.{Share}
@@ -75,10 +75,6 @@ or_false : (a b : Bool) → a ≡ false → (a || b) ≡ b
 or_false true b e = cc
 or_false false b e = refl
 
-or_true : (a b : Bool) → a ≡ true → (a || b) ≡ true
-or_true true b e = refl
-or_true false b e = cc
-
 off : (a b : ℕ) → not (eqb a b) ≡ true → a ≢ b
 off a b e same = false_true (sym (ap not (eq-eqb a b same)) ∙ e)
   where
@@ -93,7 +89,7 @@ pub known_after : (k size c : ℕ) (answers : List Share) (d : ℕ → ℕ) (old
     → IsBlamed k d (slice_index (indexes_of answers)) (slice_index (bytes_of size c answers)) old new
     → AreKnown k size answers new
 known_after k size c answers d old new rising bytes hc len known near_d blamed = record {
-  lengths = λ i a h wrong. blamed i (omega arith) ∙ or_true (get_or old i false) _ (known.lengths i a h wrong);
+  lengths = λ i a h wrong. blamed i (omega arith) ∙ or_left (get_or old i false) _ (known.lengths i a h wrong);
   altered = λ s near i a h mark. each s near i a h mark (get_or old i false) refl;
 }
   where
@@ -189,7 +185,7 @@ pub more_marked : (k : ℕ) (d X Y : ℕ → ℕ) (old new : List Bool) → leng
     → (i : ℕ) → i < length old → get_or old i false ≡ false → share k d (X i) ≢ Y i → marked old < marked new
 more_marked k d X Y old new len blamed i h unmarked differs =
     count_more (λ mark. mark) (λ mark. mark) old new i false len
-    (λ j a b l t. get_or_default new j b false (omega arith) ∙ blamed j l ∙ or_true (get_or old j false) _ (get_or_default old j false a l ∙ t))
+    (λ j a b l t. get_or_default new j b false (omega arith) ∙ blamed j l ∙ or_left (get_or old j false) _ (get_or_default old j false a l ∙ t))
     h unmarked
     (blamed i h ∙ or_false (get_or old i false) _ unmarked ∙ ap not (ne_eqb (share k d (X i)) (Y i) differs))
 

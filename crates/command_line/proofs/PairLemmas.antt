@@ -2,12 +2,10 @@
 use Rattle.std.proofs.Common.{◌≡◌, ℕ, zero, suc, ◌+◌, ◌-◌, ◌<◌, ◌≤◌, Bool, true, false, List, [], ◌∷◌, length, drop, Option, Some, None, refl, sym, ap, ◌∙◌, arith, add-one}
 use Rattle.std.specs.Prelude.{slice_get, ◌&&◌, is_none, is_some, not, option_map}
 use Rattle.std.specs.List.{list_any}
+use Rattle.std.proofs.lemmas.Option.{same_Some}
 use denote.Ref.{Bor}
 use Rattle.sat_base.specs.Text.{same}
 use Rattle.command_line.specs.Pairs.{is_value, value_of, is_pair, is_form, texts, is_named}
-
-some_is : (a b : List ℕ) → Some a ≡ Some b → a ≡ b
-some_is a b e = cc
 
 pub any_text : (names : List (Bor (List ℕ))) (name : List ℕ) → is_named names name ≡ list_any (λ n. same n name) (texts names)
 any_text [] name = refl
@@ -18,7 +16,7 @@ any_text (n ∷ names) name = rw (any_text names name) refl
 two : (words : List (List ℕ)) (i : ℕ) → i + 2 ≤ length words → (b : List ℕ) × ((a : List ℕ) → slice_get words i ≡ Some a → drop i words ≡ a ∷ b ∷ drop (suc (suc i)) words) × (slice_get words (suc i) ≡ Some b)
 two [] i le = absurd (omega arith)
 two (w ∷ []) zero le = absurd (omega arith)
-two (w ∷ v ∷ words) zero le = (v, λ a e. rw (some_is _ _ e) refl, refl)
+two (w ∷ v ∷ words) zero le = (v, λ a e. rw (same_Some _ _ e) refl, refl)
 two (w ∷ words) (suc i) le = two words i (omega arith)
 
 module _ (words : List (List ℕ)) (i : ℕ) (a : List ℕ) (le : i + 2 ≤ length words) (e : slice_get words i ≡ Some a) where
@@ -38,10 +36,10 @@ module _ (words : List (List ℕ)) (i : ℕ) (a : List ℕ) (le : i + 2 ≤ leng
   strange_name names strange = rw (shape.1, strange) refl
 
   pub no_value : (names : List (List ℕ)) (b : List ℕ) → slice_get words (i + 1) ≡ Some b → list_any (λ n. same n a) names ≡ true → is_value b ≡ false → is_pair names (drop i words) ≡ false
-  no_value names b f known bad = let same_b : shape.0 ≡ b = some_is _ _ (sym shape.2 ∙ f) in rw (shape.1, known, same_b, bad) refl
+  no_value names b f known bad = let same_b : shape.0 ≡ b = same_Some _ _ (sym shape.2 ∙ f) in rw (shape.1, known, same_b, bad) refl
 
   pub a_value : (names : List (List ℕ)) (b : List ℕ) → slice_get words (i + 1) ≡ Some b → list_any (λ n. same n a) names ≡ true → is_value b ≡ true → is_pair names (drop i words) ≡ is_none (value_of a (drop (i + 2) words))
-  a_value names b f known good = let same_b : shape.0 ≡ b = some_is _ _ (sym shape.2 ∙ f) in rw (shape.1, known, same_b, good) refl
+  a_value names b f known good = let same_b : shape.0 ≡ b = same_Some _ _ (sym shape.2 ∙ f) in rw (shape.1, known, same_b, good) refl
 
 form_two : (names words : List (List ℕ)) (i : ℕ) → i + 2 ≤ length words → is_form names (drop i words) ≡ (is_pair names (drop i words) && is_form names (drop (suc (suc i)) words))
 form_two names [] i le = absurd (omega arith)

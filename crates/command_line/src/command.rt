@@ -63,7 +63,7 @@ pub enum Command {
 pub enum LineErr {
     /// They are outside the grammar.
     Usage,
-    /// Memory is wanting for the name of a store.
+    /// Memory runs out for the name of a store.
     NoMemory,
 }
 

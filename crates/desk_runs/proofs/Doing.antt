@@ -1,17 +1,17 @@
 -- What a worker did, in the history that its pass has seen, and in that of a pass into which it was joined.
 use Rattle.std.proofs.Common.{◌≡◌, ℕ, List, [], ◌∷◌, ◌++◌, Bool, true, refl, sym, ap, ◌∙◌, subst, eq-eqb}
 use Rattle.std.specs.Prelude.{eqb}
+use Rattle.std.proofs.lemmas.Bool.{or_left}
 use Rattle.turnstile.specs.declared.entry.Entry.{Entry}
 use Rattle.turnstile.specs.History.{has, own}
 use Rattle.turnstile.specs.Known.{Known, SameRights, own_entries}
-use Rattle.turnstile.proofs.Histories.{left_of}
 use Rattle.desk_runs.specs.Gathered.{Keeps}
 use Rattle.desk_runs.specs.Runs.{Runs, Acts, Lasts, HasDone}
 use Rattle.desk_runs.proofs.Entering.{starts_same}
 use Rattle.desk_runs.proofs.Running.{runs_acts, runs_full, acts_later}
 
 has_first : (n : ℕ) (ns : List ℕ) → has (n ∷ ns) n ≡ true
-has_first n ns = left_of (eqb n n) (has ns n) (eq-eqb n n refl)
+has_first n ns = or_left (eqb n n) (has ns n) (eq-eqb n n refl)
 
 module _ {C A B S X : Type 0} (places : X → List ℕ) (is_full : X → Bool) (Tells : S → X → List (Entry C A) → List (Entry C A) → S → Type 0) where
   -- a worker whose pass had this number alone and no entry yet

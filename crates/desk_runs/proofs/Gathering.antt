@@ -1,8 +1,9 @@
 -- Passes that are split for workers, and joined again.
 use Rattle.std.proofs.Common.{◌≡◌, ℕ, ◌+◌, ◌-◌, ◌/◌, ◌<◌, ◌≤◌, List, [], ◌∷◌, ◌++◌, true, refl, sym, ap, ◌∙◌, subst, arith, append_assoc, append-nil, Some, None, Option}
+use Rattle.std.proofs.lemmas.Bool.{or_left, or_right}
 use Rattle.turnstile.specs.History.{has, own}
 use Rattle.turnstile.specs.Known.{Known, SameRights, Joined, kept_half, given_half, given_number, or_else}
-use Rattle.turnstile.proofs.Histories.{has-append, left_of, right_of}
+use Rattle.turnstile.proofs.Histories.{has-append}
 use Rattle.desk_runs.specs.Gathered.{Keeps, Gathered, Rises}
 
 marked_either : (x y : Option ℕ) (t : ℕ) → y ≡ Some t → (s : ℕ) × (or_else x y ≡ Some s)
@@ -18,7 +19,7 @@ module _ {C A B : Type 0} where
   keeps_first r o u j = record {
     begins = j.of_first.begins;
     same = j.of_first.same_own;
-    numbers = λ n h. ap (λ (k : Known C A B). has k.numbers n) j.is ∙ (has-append r.numbers o.numbers n ∙ left_of (has r.numbers n) (has o.numbers n) h);
+    numbers = λ n h. ap (λ (k : Known C A B). has k.numbers n) j.is ∙ (has-append r.numbers o.numbers n ∙ or_left (has r.numbers n) (has o.numbers n) h);
     marked = λ m. (m.0, ap (λ (k : Known C A B). k.mark) j.is ∙ ap (λ x. or_else x o.mark) m.1);
   }
 
@@ -26,7 +27,7 @@ module _ {C A B : Type 0} where
   keeps_second r o u j = record {
     begins = j.of_second.begins;
     same = j.of_second.same_own;
-    numbers = λ n h. ap (λ (k : Known C A B). has k.numbers n) j.is ∙ (has-append r.numbers o.numbers n ∙ right_of (has r.numbers n) (has o.numbers n) h);
+    numbers = λ n h. ap (λ (k : Known C A B). has k.numbers n) j.is ∙ (has-append r.numbers o.numbers n ∙ or_right (has r.numbers n) (has o.numbers n) h);
     marked = λ m. let e = marked_either r.mark o.mark m.0 m.1 in (e.0, ap (λ (k : Known C A B). k.mark) j.is ∙ e.1);
   }
 
@@ -39,7 +40,7 @@ module _ {C A B : Type 0} where
       let num : n ≡ given_number v = is_n ∙ ap (λ (k : Known C A B). k.number) is_o in
       let o_nums : o.numbers ≡ n ∷ [] = same.numbers ∙ (ap (λ (k : Known C A B). k.numbers) is_o ∙ ap (λ (m : ℕ). m ∷ []) (sym num)) in
       let r_nums : r.numbers ≡ v.numbers ++ ns = g.numbers_are ∙ ap (λ (k : Known C A B). k.numbers ++ ns) is_l in
-      let in_r : (m : ℕ) → has v.numbers m ≡ true → has r.numbers m ≡ true = λ m h. ap (λ l. has l m) r_nums ∙ (has-append v.numbers ns m ∙ left_of (has v.numbers m) (has ns m) h) in
+      let in_r : (m : ℕ) → has v.numbers m ≡ true → has r.numbers m ≡ true = λ m h. ap (λ l. has l m) r_nums ∙ (has-append v.numbers ns m ∙ or_left (has v.numbers m) (has ns m) h) in
       let rises : Rises v.number ns (given_number v) = subst (λ (k : Known C A B). Rises k.number ns (k.number + k.spare)) is_l g.rises in
       record {
         numbers_are = ap (λ (k : Known C A B). k.numbers) j.is ∙ ((λ i. r_nums i ++ o_nums i) ∙ append_assoc v.numbers ns (n ∷ []));

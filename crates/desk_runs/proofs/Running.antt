@@ -1,11 +1,11 @@
 -- What a worker did, one thing after another.
 use Rattle.std.proofs.Common.{◌≡◌, ℕ, List, [], ◌∷◌, ◌++◌, map, Bool, true, refl, sym, ap, ◌∙◌, subst, inl, inr, append-nil}
 use Rattle.std.specs.Prelude.{flat_map}
+use Rattle.std.proofs.lemmas.Bool.{or_cases}
 use mathlib.Core.List.{map-append}
 use Rattle.turnstile.specs.declared.entry.Entry.{Entry}
 use Rattle.turnstile.specs.History.{StartsWith}
 use Rattle.turnstile.specs.Known.{Known}
-use Rattle.turnstile.proofs.Histories.{either_of}
 use Rattle.desk_runs.specs.Entered.{place_of, Entered, Marked}
 use Rattle.desk_runs.specs.Runs.{Does, Runs, Acts, Lasts, some_is}
 use Rattle.desk_runs.proofs.Entering.{entered_none, entered_more, starts_on}
@@ -33,7 +33,7 @@ module _ {C A B S X : Type 0} (places : X → List ℕ) (is_full : X → Bool) (
 
   pub runs_full : Lasts Tells → (s : S) (k : Known C A B) (xs : List X) (s' : S) (k' : Known C A B) → Runs places is_full Tells s k xs s' k' → some_is is_full xs ≡ true → Marked k'
   runs_full lasts s k [] s' k' r h = absurd (cc)
-  runs_full lasts s k (x ∷ xs) s' k' r h = elim (either_of (is_full x) (some_is is_full xs) h) [
+  runs_full lasts s k (x ∷ xs) s' k' r h = elim (or_cases (is_full x) (some_is is_full xs) h) [
     | inl e ↦ (runs_acts lasts k'.seen r.0 r.1 xs s' k' r.3 ([], sym (append-nil k'.seen))).1.marked (r.2.full e)
     | inr e ↦ runs_full lasts r.0 r.1 xs s' k' r.3 e
   ]

@@ -1,17 +1,14 @@
 -- How answers are counted.
-use Rattle.std.proofs.Common.{◌≡◌, ℕ, ◌+◌, ◌-◌, ◌^◌, ◌<◌, ◌≤◌, List, [], ◌∷◌, ◌++◌, length, count_by, cond, min, Bool, true, false, refl, sym, ◌∙◌, ap, arith, subst}
-use Rattle.std.proofs.lemmas.List.Sums.{sum_by-append}
+use Rattle.std.proofs.Common.{◌≡◌, ℕ, ◌+◌, ◌-◌, ◌^◌, ◌≤◌, List, [], ◌∷◌, ◌++◌, count_by, cond, Bool, true, false, ◌∙◌, arith, subst}
 use Rattle.sat_base.specs.declared.nodes.Fetched.{Fetched}
 use Rattle.sat_base.specs.Nodes.{CountsUnanswered, is_unanswered}
-use Rattle.sat_base.specs.Outside.{CountsExactly, raised}
+use Rattle.sat_base.specs.Outside.{CountsExactly}
 use Rattle.gather.specs.Counting.{raised_by}
-
-pub count_push : {A : Type 0} (test : A → Bool) (xs : List A) (x : A) → count_by test (xs ++ x ∷ []) ≡ count_by test xs + cond (test x) 1 0
-count_push test xs x = sum_by-append (λ y. cond (test y) 1 0) xs (x ∷ []) ∙ omega arith
+use Rattle.sat_base.proofs.Fetches.{count_by-push}
 
 -- one more that isn't counted
 pub count_none : {A : Type 0} (test : A → Bool) (xs : List A) (x : A) → count_by test xs ≡ 0 → test x ≡ false → count_by test (xs ++ x ∷ []) ≡ 0
-count_none test xs x none e = count_push test xs x ∙ rw e (omega (arith, none))
+count_none test xs x none e = count_by-push test xs x ∙ rw e (omega (arith, none))
 
 pub counts_unanswered : (answers : List Fetched) (old new : ℕ) → new ≡ raised_by (count_by is_unanswered answers) old → CountsUnanswered answers old new
 counts_unanswered answers old new e less = omega (arith, e, less)

@@ -6,7 +6,7 @@ use Rattle.std.specs.declared.alloc.Global.{Global}
 use Rattle.std.proofs.lemmas.Slice.Zip.{AllZip-long}
 use Rattle.sat_base.specs.declared.nodes.Ask.{Ask}
 use Rattle.sat_base.specs.declared.nodes.Fetched.{Fetched}
-use Rattle.sat_base.specs.Nodes.{Fetches, FetchesWithin, FetchesAll, is_wanting}
+use Rattle.sat_base.specs.Nodes.{Fetches, FetchesWithin, FetchesAll, is_out_of_memory}
 use Rattle.tokio.specs.Timers.{timeout_future}
 use Rattle.tokio.specs.declared.time.timeout.Timeout.{Timeout}
 use Rattle.node_wire.specs.Answers.{IsHeardFetch}
@@ -57,7 +57,7 @@ pub all_heard : (asked : List Ask) (heard : List HeardAt) (answers : List Fetche
 all_heard asked heard answers h k = zip_through FetchComes TakenFrom IsHeardFetch taken_heard asked heard answers h k
 
 pub heard_all : {E : Type 0} (asked : List Ask) (heard : List HeardAt) (result : Result (Vec Fetched Global) E) → AllZip FetchComes asked heard
-    → IfOk result (λ answers. AllZip TakenFrom heard answers.items) → IfOk result (λ answers. count_by is_wanting answers.items ≡ 0) → IfOk result (λ answers. HeardAll asked answers.items)
+    → IfOk result (λ answers. AllZip TakenFrom heard answers.items) → IfOk result (λ answers. count_by is_out_of_memory answers.items ≡ 0) → IfOk result (λ answers. HeardAll asked answers.items)
 heard_all asked heard (Ok answers) comes taken none = record { each = all_heard asked heard answers.items comes taken; none = none }
 heard_all asked heard (Err e) comes taken none = tt
 

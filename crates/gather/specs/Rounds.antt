@@ -52,7 +52,7 @@ FetchComes ask heard = Comes (Fetch ask.len) heard.0
 abbrev pub PutComes : Heard → Type 0
 PutComes heard = Comes Put heard
 
--- an answer is what was heard, unless memory was wanting
+-- an answer is what was heard, unless memory ran out
 abbrev pub TakenAs : Heard → Fetched → Type 0
 TakenAs (Ok heard) fetched = HoldsShare heard.1 → (fetched ≡ fetched_of (said_of heard.1 heard.0)) ⊎ (fetched ≡ NoMemory)
 TakenAs (Err elapsed) fetched = fetched ≡ NoAnswer

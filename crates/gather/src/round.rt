@@ -35,7 +35,7 @@ pub(crate) type HeardAt = (Heard, Duration);
 type Fetching<'a, R> = Timed<'a, Timeout<Asking>, R>;
 
 /// Asks for all pieces at once, each for as long as the patience with its order lasts, which is spent so. What each ask
-/// came to stands at its place. An error is that of the runtime, or says that memory is wanting.
+/// came to stands at its place. An error is that of the runtime, or says that memory runs out.
 pub(crate) fn fetch_round<R>(
     rt: &R,
     patience: &mut Patience,

@@ -2,7 +2,7 @@
 ghost use Rattle.std.specs.Prelude.{◌≡◌, ◌≤◌, ◌^◌, ◌-◌, ℕ, [], ◌∷◌, IfOk, OnOk, OnErr, count_by, length};
 ghost use Rattle.std.specs.List.{AllZip};
 ghost use Rattle.sat_base.specs.Outside.{CountsExactly, with_end};
-ghost use Rattle.sat_base.specs.Nodes.{Fetches, FetchesWithin, FetchesAll, Stores, AsksSome, CountsUnanswered, fetch_asks, put_asks, is_unanswered, is_unstored, is_wanting};
+ghost use Rattle.sat_base.specs.Nodes.{Fetches, FetchesWithin, FetchesAll, Stores, AsksSome, CountsUnanswered, fetch_asks, put_asks, is_unanswered, is_unstored, is_out_of_memory};
 ghost use Rattle.node_wire.specs.Answers.{IsHeardFetch, IsHeardPut, no_asks, no_held};
 ghost use Rattle.gather.specs.Rounds.{TakenAs, TakenFrom};
 ghost use Rattle.gather.specs.Counting.{HeardAll, raised_by};
@@ -103,7 +103,7 @@ fn answer_of(alloc: Global, heard: Heard) -> Fetched
 // The answers that were heard.
 fn answers_of(alloc: Global, heard: Vec<HeardAt>) -> Result<Vec<Fetched>, NoMemory>
     ensures each { IfOk result (λ answers. AllZip TakenFrom heard.items answers.items) }
-    ensures none { IfOk result (λ answers. count_by is_wanting answers.items ≡ 0) }
+    ensures none { IfOk result (λ answers. count_by is_out_of_memory answers.items ≡ 0) }
 {
     let mut answers = Vec::with_capacity(alloc, heard.len())?;
     for one in heard {
@@ -127,14 +127,14 @@ fn no_answers(alloc: Global, asked: &[Ask]) -> Result<Vec<Fetched>, NoMemory>
     Ok(answers)
 }
 
-// Whether memory was wanting for an answer.
+// Whether memory ran out for an answer.
 fn is_memory(answer: &Fetched) -> bool
-    ensures { result ≡ is_wanting answer.now }
+    ensures { result ≡ is_out_of_memory answer.now }
 {
     matches!(answer, Fetched::NoMemory)
 }
 
-// Whether memory was wanting for a round.
+// Whether memory ran out for a round.
 fn wants_memory(error: &io::Error) -> bool {
     error.kind() == ErrorKind::OutOfMemory
 }
@@ -276,7 +276,7 @@ where
         ensures err { OnErr result (AsksSome no_asks asked.now no_asks) }
 
         // Beside what all nodes promise: each is what the bytes of an answer say, the count rises by those without one,
-        // and where memory is wanting it stays.
+        // and where memory runs out it stays.
         ensures heard { IfOk result (λ answers. AllZip IsHeardFetch asked.now answers) }
         ensures exact { IfOk result (λ answers. self.new ≡ raised_by (count_by is_unanswered answers) self.old) }
         ensures kept { OnErr result (self.new ≡ self.old) }

@@ -27,7 +27,7 @@ impl Model for Matrix {
 }
 
 impl Matrix {
-    /// A table of zeros, with room for as many entries as it has. Its one error is want of memory.
+    /// A table of zeros, with room for as many entries as it has. It fails only where memory runs out.
     pub fn new(alloc: Global, rows: usize, cols: usize) -> Result<Matrix, NoMemory>
         requires size { (rows ≤ 128) × (cols ≤ 129) }
         ensures { IfOk result (λ m. m ≡ zeros_of rows cols (rows * cols)) }

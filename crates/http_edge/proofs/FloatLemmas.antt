@@ -11,8 +11,8 @@ use Rattle.serde_json.specs.View.{items_of}
 use Rattle.serde_json.specs.Written.{has_float, items_have_float}
 use Rattle.http_edge.specs.Refusals.{refusal_data}
 use Rattle.http_edge.specs.Answers.{place_data, reply_data, edge_data}
-use Rattle.http_edge.specs.declared.wish.EdgeErr.{EdgeErr}
-use Rattle.http_edge.specs.declared.wish.EdgeErr.TheVariants as edges
+use Rattle.http_edge.specs.declared.errors.EdgeErr.{EdgeErr}
+use Rattle.http_edge.specs.declared.errors.EdgeErr.TheVariants as edges
 
 refusal_no_float : (r : Refusal) → has_float (refusal_data r) ≡ false
 refusal_no_float (refusals.Length got) = refl

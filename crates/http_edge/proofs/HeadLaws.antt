@@ -4,15 +4,15 @@ use Rattle.std.proofs.lemmas.List.{take-append-drop}
 use Rattle.httparse.specs.Grammar.{RequestHead}
 use Rattle.httparse.proofs.GrammarLemmas.{request_unique}
 use Rattle.httparse.specs.Spans.{name_and_value}
+use Rattle.http_parts.specs.Heads.{HasHead, max_head}
 use Rattle.http_edge.specs.Demands.{Demands, no_route, bad_method, routed, method_of, of_headers}
-use Rattle.http_edge.specs.Heads.{HasHead, max_head}
 use Rattle.http_edge.specs.Paths.{IsPath}
 use Rattle.http_edge.specs.Requests.{Says, SaysBehind, SaysBody, no_head, short, long, headed, refused, stated, bodied, short_body, whole}
 use Rattle.http_edge.specs.declared.demand.Demand.{Demand}
 use Rattle.http_edge.specs.declared.demand.Demand.TheVariants.{Refused, Body, Statement}
 use Rattle.http_edge.specs.declared.routes.Route.{Route}
-use Rattle.http_edge.specs.declared.wish.EdgeErr.{EdgeErr}
-use Rattle.http_edge.specs.declared.wish.Wish.{Wish}
+use Rattle.http_edge.specs.declared.errors.EdgeErr.{EdgeErr}
+use Rattle.machine_calls.specs.declared.wish.Wish.{Wish}
 use Rattle.http_edge.proofs.PathLemmas.{route_from}
 
 pub head_decides : (secret bytes : List ℕ) (h : RequestHead) (rest : List ℕ) → HasHead bytes h rest → (said : Result Wish EdgeErr) → Says secret bytes said → SaysBehind secret h rest said

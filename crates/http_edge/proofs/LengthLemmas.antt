@@ -1,29 +1,14 @@
 -- Numerals, and what Content-Length says.
-use Rattle.std.proofs.Common.{◌≡◌, ◌≢◌, ℕ, ◌≤◌, ◌↔◌, List, [], ◌∷◌, length, refl, sym, ap, arith, Bool, true, false, IsTrue, cond, nat_le, nat_lt, ◌&&◌, Option, Some, None, IfSome}
-use Rattle.std.specs.List.{list_all, AllPass}
-use Rattle.std.specs.Char.{is_ascii_digit}
-use Rattle.std.proofs.lemmas.List.Sums.{AllPass-from_list_all, list_all-from_AllPass}
+use Rattle.std.proofs.Common.{◌≡◌, ◌≢◌, ℕ, List, [], ◌∷◌, length, refl, sym, ap, arith, true, false, nat_le, Some, None}
 use Rattle.std.specs.Str.Parse.{digits_value}
 use Rattle.std.proofs.lemmas.Grind.{common_steps}
-use Rattle.http_edge.specs.Headers.{is_named, values_named, value_named}
 use Rattle.sat_base.specs.Text.{numeral, up_to}
 use Rattle.sat_base.proofs.TextLemmas.{up_to_some, up_to_too_great}
+use Rattle.http_parts.proofs.HeaderLemmas.{first}
 use Rattle.http_edge.specs.Demands.{of_lengths}
 use Rattle.http_edge.specs.declared.routes.Route.{Route}
 use Rattle.http_edge.specs.declared.demand.Demand.TheVariants.{Refused, Body}
-use Rattle.http_edge.specs.declared.wish.EdgeErr.TheVariants.{NoLength, BadLength, BodySize}
-
-abbrev pub first : List (List ℕ) → Option (List ℕ)
-first [] = None
-first (v ∷ vs) = Some v
-
-first_step : (b : Bool) (v : List ℕ) (vs : List (List ℕ)) (o : Option (List ℕ)) → o ≡ first vs → cond b (Some v) o ≡ first (cond b (v ∷ vs) vs)
-first_step true v vs o e = refl
-first_step false v vs o e = e
-
-pub first_is : (name : List ℕ) (hs : List (List ℕ × List ℕ)) → value_named name hs ≡ first (values_named name hs)
-first_is name [] = refl
-first_is name (h ∷ hs) = first_step (is_named name h) h.1 (values_named name hs) (value_named name hs) (first_is name hs)
+use Rattle.http_edge.specs.declared.errors.EdgeErr.TheVariants.{NoLength, BadLength, BodySize}
 
 pub lengths_none : (r : Route) (vs : List (List ℕ)) → first vs ≡ None → of_lengths r vs ≡ Refused NoLength
 lengths_none r [] e = refl

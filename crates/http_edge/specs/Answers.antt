@@ -1,7 +1,6 @@
--- The bytes of answers: a status line, three headers, and a body in JSON.
-use Rattle.std.specs.Prelude.{ℕ, Bool, ◌+◌, ◌/◌, ◌%◌, List, [], ◌∷◌, ◌++◌, map, codes, decimal, length, unwrap_or, ◌==◌, if◌then◌else◌}
+-- The bytes of answers: messages of a status, with a body in JSON.
+use Rattle.std.specs.Prelude.{ℕ, Bool, ◌+◌, ◌/◌, ◌%◌, List, ◌++◌, map, codes, decimal, unwrap_or, ◌==◌, if◌then◌else◌}
 use Rattle.hex.specs.Hex.{encode_lower}
-use Rattle.http.specs.StatusCode.{reason_phrase}
 use Rattle.order_limits.specs.Keys.{node_key, customer_key, serial_key}
 use Rattle.order_limits.specs.Order.{action_of, limit_bytes}
 use Rattle.order_limits.specs.Grant.{expiry_of, limit_at}
@@ -19,26 +18,10 @@ use Rattle.tally_payout.specs.declared.amounts.Parts.{Parts}
 use Rattle.tally_payout.specs.declared.amounts.Statement.{Statement}
 use Rattle.serde_json.specs.Data.{Data, Members, boolean, string, array, object, member, no_members, put}
 use Rattle.serde_json.specs.View.{items_of}
-use Rattle.serde_json.specs.Written.{compact_text}
+use Rattle.http_parts.specs.Messages.{message}
 use Rattle.http_edge.specs.Refusals.{whole, refusal_data, refusal_status}
-use Rattle.http_edge.specs.declared.wish.EdgeErr.{EdgeErr}
-use Rattle.http_edge.specs.declared.wish.EdgeErr.TheVariants as edges
-
--- ---- the text
-
-abbrev pub crlf : List ℕ
-crlf = 13 ∷ 10 ∷ []
-
--- the status line, the headers and the body
-abbrev pub parts_text : ℕ → List ℕ → ℕ → List ℕ → List ℕ
-parts_text status phrase size body =
-    codes "HTTP/1.1 " ++ decimal status ++ codes " " ++ phrase ++ crlf
-    ++ codes "content-type: application/json" ++ crlf
-    ++ codes "content-length: " ++ decimal size ++ crlf
-    ++ codes "connection: close" ++ crlf ++ crlf ++ body
-
-abbrev pub message : ℕ → Data → List ℕ
-message status d = parts_text status (unwrap_or (reason_phrase status) []) (length (compact_text d)) (compact_text d)
+use Rattle.http_edge.specs.declared.errors.EdgeErr.{EdgeErr}
+use Rattle.http_edge.specs.declared.errors.EdgeErr.TheVariants as edges
 
 -- ---- replies
 

@@ -3,15 +3,16 @@ use Rattle.std.specs.Prelude.{◌≡◌, ◌≢◌, ℕ, List, [], ◌∷◌, ma
 use Rattle.std.specs.Str.Parse.{digits_value}
 use Rattle.httparse.specs.Grammar.{RequestHead}
 use Rattle.httparse.specs.Spans.{name_and_value}
-use Rattle.http_edge.specs.Headers.{value_named, values_named, is_key}
 use Rattle.sat_base.specs.Text.{numeral}
+use Rattle.http_parts.specs.Headers.{value_named, values_named}
+use Rattle.http_parts.specs.Keys.{is_key}
+use Rattle.http_parts.specs.declared.bounds.TheConstants.{MAX_BODY}
 use Rattle.http_edge.specs.Paths.{IsPath}
 use Rattle.order_limits.specs.Keys.{node_key, customer_key, operator_key}
-use Rattle.http_edge.specs.declared.bounds.TheConstants.{MAX_BODY}
 use Rattle.http_edge.specs.declared.routes.Route.{Route}
 use Rattle.http_edge.specs.declared.routes.Route.TheVariants.{Begin, Commit, Get, Delete, Settle, SetFree, Exit, AddNode, AddCustomer, CloseMonth, SetRates, Stop}
 use Rattle.http_edge.specs.declared.routes.Route.TheVariants as routes
-use Rattle.http_edge.specs.declared.wish.EdgeErr.TheVariants.{NoRoute, BadMethod, Key, Transfer, NoLength, BadLength, BodySize}
+use Rattle.http_edge.specs.declared.errors.EdgeErr.TheVariants.{NoRoute, BadMethod, Key, Transfer, NoLength, BadLength, BodySize}
 use Rattle.http_edge.specs.declared.demand.Demand.{Demand}
 use Rattle.http_edge.specs.declared.demand.Demand.TheVariants.{Refused, Body, Statement}
 

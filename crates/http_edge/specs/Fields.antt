@@ -14,13 +14,13 @@ use Rattle.sat_base.specs.declared.month.Month.{Month}
 use Rattle.sat_base.specs.declared.rates.Rates.{Rates}
 use Rattle.sat_base.specs.Results.{◌>>=◌}
 use Rattle.month_text.specs.MonthText.{month_in}
-use Rattle.http_edge.specs.Address.{address_of}
+use Rattle.address_text.specs.Address.{address_of}
 use Rattle.http_edge.specs.declared.routes.Route.{Route}
 use Rattle.http_edge.specs.declared.routes.Route.TheVariants as routes
-use Rattle.http_edge.specs.declared.wish.Wish.{Wish}
-use Rattle.http_edge.specs.declared.wish.Wish.TheVariants.{AddNode, AddCustomer, Begin, Commit, Get, Delete, Settle, SetFree, Exit, Statement, CloseMonth, SetRates, Stop}
-use Rattle.http_edge.specs.declared.wish.EdgeErr.{EdgeErr}
-use Rattle.http_edge.specs.declared.wish.EdgeErr.TheVariants.{Json, Field, NoMemory}
+use Rattle.machine_calls.specs.declared.wish.Wish.{Wish}
+use Rattle.machine_calls.specs.declared.wish.Wish.TheVariants.{AddNode, AddCustomer, Begin, Commit, Get, Delete, Settle, SetFree, Exit, Statement, CloseMonth, SetRates, Stop}
+use Rattle.http_edge.specs.declared.errors.EdgeErr.{EdgeErr}
+use Rattle.http_edge.specs.declared.errors.EdgeErr.TheVariants.{Json, Field, NoMemory}
 
 -- the value that a body is
 abbrev pub reading : List ℕ → Option Data

@@ -1,13 +1,8 @@
-pub mod Address
 pub mod Answers
 pub mod Demands
-pub mod Fetches
 pub mod Fields
-pub mod Headers
-pub mod Heads
 pub mod Paths
 pub mod Refusals
 pub mod Requests
 pub mod RouteSteps
-pub mod Sending
 pub mod Wishes

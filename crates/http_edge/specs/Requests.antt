@@ -1,19 +1,19 @@
 -- What the bytes of a connection ask: a wish, or an error.
 use Rattle.std.specs.Prelude.{◌≢◌, ℕ, ◌+◌, ◌<◌, ◌≤◌, List, length, take, Result, Ok, Err, Bool, true, false}
 use Rattle.httparse.specs.Grammar.{RequestHead, NeverHasRequest}
+use Rattle.http_parts.specs.Heads.{max_head, HasHead, LacksHead, MayReadHead}
+use Rattle.http_parts.specs.declared.bodies.BodyErr.{BodyErr}
+use Rattle.http_parts.specs.declared.bodies.BodyErr.TheVariants as bodies
 use Rattle.http_edge.specs.Demands.{Demands, max_body}
 use Rattle.http_edge.specs.Fields.{body_of}
-use Rattle.http_edge.specs.Heads.{max_head, HasHead, LacksHead, MayReadHead}
 use Rattle.http_edge.specs.declared.demand.Demand.TheVariants.{Refused, Body, Statement}
-use Rattle.http_edge.specs.declared.fetch.BodyErr.{BodyErr}
-use Rattle.http_edge.specs.declared.fetch.BodyErr.TheVariants as fetches
 use Rattle.http_edge.specs.declared.routes.Route.{Route}
-use Rattle.http_edge.specs.declared.wish.EdgeErr.{EdgeErr}
-use Rattle.http_edge.specs.declared.wish.EdgeErr.TheVariants.{Head, Short, HeadSize, ShortBody, NoMemory}
-use Rattle.http_edge.specs.declared.wish.ReadErr.{ReadErr}
-use Rattle.http_edge.specs.declared.wish.ReadErr.TheVariants.{Fault, Edge}
-use Rattle.http_edge.specs.declared.wish.Wish.{Wish}
-use Rattle.http_edge.specs.declared.wish.Wish.TheVariants as wishes
+use Rattle.http_edge.specs.declared.errors.EdgeErr.{EdgeErr}
+use Rattle.http_edge.specs.declared.errors.EdgeErr.TheVariants.{Head, Short, HeadSize, ShortBody, NoMemory}
+use Rattle.http_edge.specs.declared.errors.ReadErr.{ReadErr}
+use Rattle.http_edge.specs.declared.errors.ReadErr.TheVariants.{Fault, Edge}
+use Rattle.machine_calls.specs.declared.wish.Wish.{Wish}
+use Rattle.machine_calls.specs.declared.wish.Wish.TheVariants as wishes
 use Rattle.sat_base.specs.declared.ids.NodeId.{NodeId}
 use Rattle.sat_base.specs.declared.month.Month.{Month}
 
@@ -75,6 +75,6 @@ max_request = max_head + max_body
 
 -- the error where there is no body
 abbrev pub unread_as : BodyErr → ReadErr
-unread_as fetches.Short = Edge ShortBody
-unread_as fetches.Fault = Fault
-unread_as fetches.NoMemory = Edge NoMemory
+unread_as bodies.Short = Edge ShortBody
+unread_as bodies.Fault = Fault
+unread_as bodies.NoMemory = Edge NoMemory

@@ -4,8 +4,8 @@ use Rattle.http_edge.specs.declared.demand.Demand.{Demand}
 use Rattle.http_edge.specs.declared.demand.Demand.TheVariants as demands
 use Rattle.http_edge.specs.declared.routes.Route.{Route}
 use Rattle.http_edge.specs.declared.routes.Route.TheVariants as routes
-use Rattle.http_edge.specs.declared.wish.Wish.{Wish}
-use Rattle.http_edge.specs.declared.wish.Wish.TheVariants.{Statement, CloseMonth, SetRates}
+use Rattle.machine_calls.specs.declared.wish.Wish.{Wish}
+use Rattle.machine_calls.specs.declared.wish.Wish.TheVariants.{Statement, CloseMonth, SetRates}
 
 -- months and rates are such as records have
 abbrev pub IsWishWithin : Wish → Type 0

@@ -5,10 +5,10 @@ ghost use Rattle.serde_json.specs.View.{view};
 ghost use Rattle.http_edge.specs.Answers.{answer_text, reply_status, edge_text, edge_status, edge_data, field_name, field_data};
 ghost use Rattle.http_edge.specs.Refusals.{refusal_status};
 
+use crate::errors::EdgeErr;
 use crate::replies::{error_value, reply_value};
-use crate::texts::message_of;
-use crate::wish::EdgeErr;
 use http::StatusCode;
+use http_parts::message_of;
 use machine_calls::{Refusal, Reply};
 use order_limits::Keys;
 use sat_base::{Bytes, NoMemory};
@@ -32,7 +32,7 @@ pub fn edge_answer(alloc: Global, error: &EdgeErr) -> Result<Bytes, NoMemory>
     Ok(message_of(alloc, status_of_edge(*error), &value)?)
 }
 
-/// The bytes of the answer where memory is wanting. It takes none.
+/// The bytes of the answer where memory runs out. It takes none.
 pub fn memory_answer() -> &'static [u8]
     ensures { result.now ≡ edge_text EdgeErr.NoMemory }
 {

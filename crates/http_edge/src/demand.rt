@@ -2,14 +2,13 @@
 ghost use Rattle.std.specs.Prelude.{◌≡◌, All, length, map, codes};
 ghost use Rattle.httparse.specs.Spans.{IsRequestWithin, IsRequestAt, IsHeaderWithin, header_bytes};
 ghost use Rattle.httparse.specs.Grammar.{RequestHead};
+ghost use Rattle.http_parts.specs.Headers.{value_named, values_named};
 ghost use Rattle.http_edge.specs.Demands.{Demands, method_of, of_headers, of_lengths, of_route, is_key_of, key_of, IsSmall};
 ghost use Rattle.http_edge.specs.Wishes.{IsDemandWithin, IsRouteWithin};
-ghost use Rattle.http_edge.specs.Headers.{value_named, values_named};
 
-use crate::bounds::MAX_BODY;
-use crate::headers::{count_named, first_named, holds_key};
+use crate::errors::EdgeErr;
 use crate::routes::{Route, route_of};
-use crate::wish::EdgeErr;
+use http_parts::{MAX_BODY, count_named, first_named, holds_key};
 use httparse::spans::{HeaderSpan, RequestSpans};
 use order_limits::Keys;
 use sat_base::{Month, NodeId, is_numeral, value_up_to};

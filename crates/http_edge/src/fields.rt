@@ -5,12 +5,13 @@ ghost use Rattle.serde_json.specs.View.{view as data_of, items_view};
 ghost use Rattle.http_edge.specs.Fields.{Gives, body_of, wish_in, node_in, begin_in, commit_in, settle_in, free_in, close_in, rates_in, number_at, whole_of, port_at, addr_at, order_at, pieces_at};
 ghost use Rattle.http_edge.specs.Wishes.{IsRouteWithin, IsWishWithin};
 
-use crate::address::address;
+use crate::errors::EdgeErr;
 use crate::months::{month_from, rates_from};
 use crate::order::order_of;
 use crate::pieces::indexes_of;
 use crate::routes::Route;
-use crate::wish::{EdgeErr, Wish};
+use address_text::address;
+use machine_calls::Wish;
 use sat_base::{Bytes, CustomerId, Indexes, NodeId, SegId};
 use serde_json::Value;
 use std::alloc::Global;

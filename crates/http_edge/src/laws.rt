@@ -1,14 +1,13 @@
 // Laws of requests and of the texts of answers.
-ghost use Rattle.std.specs.Prelude.{◌≡◌, ◌↔◌, ℕ, List, ◌++◌, codes, decimal, Result, Some};
+ghost use Rattle.std.specs.Prelude.{◌≡◌, ℕ, List, ◌++◌, codes, decimal, Result};
 ghost use Rattle.httparse.specs.Grammar.{RequestHead};
 ghost use Rattle.serde_json.specs.Written.{compact_text};
-ghost use Rattle.http_edge.specs.Address.{address_of, IsAddress};
+ghost use Rattle.http_parts.specs.Heads.{HasHead};
 ghost use Rattle.http_edge.specs.Answers.{amount_data, edge_data};
-ghost use Rattle.http_edge.specs.Heads.{HasHead};
 ghost use Rattle.http_edge.specs.Refusals.{refusal_data};
 ghost use Rattle.http_edge.specs.Requests.{Says, SaysBehind};
-ghost use Rattle.http_edge.specs.declared.wish.EdgeErr.{EdgeErr};
-ghost use Rattle.http_edge.specs.declared.wish.Wish.{Wish};
+ghost use Rattle.http_edge.specs.declared.errors.EdgeErr.{EdgeErr};
+ghost use Rattle.machine_calls.specs.declared.wish.Wish.{Wish};
 ghost use Rattle.machine_calls.specs.declared.refusal.Refusal.TheVariants.{Late, TooFew};
 
 /// The law of heads: where a head of at most 64 header lines and 8192 bytes stands at the front, the bytes say
@@ -18,12 +17,6 @@ pub fn heads_decide()
         → HasHead bytes h rest → Says secret bytes said → SaysBehind secret h rest said }
     ensures one { (secret bytes : List ℕ) (h : RequestHead) (rest : List ℕ) (a b : Result Wish EdgeErr)
         → HasHead bytes h rest → Says secret bytes a → Says secret bytes b → a ≡ b }
-{}
-
-/// The law of addresses: a text has a number exactly where it is four numbers from 0 to 255 in plain decimal,
-/// joined by dots, and then the number is that of these four bytes.
-pub fn addresses_are_dotted()
-    ensures { (text : List ℕ) (n : ℕ) → (address_of text ≡ Some n) ↔ IsAddress text n }
 {}
 
 /// The texts of some bodies, byte for byte, with their keys in byte order.

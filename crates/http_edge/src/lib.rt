@@ -1,14 +1,13 @@
 //! The wire: the bytes of a connection to one wish or one named error, and replies to the bytes of answers.
 //!
-//! Heads are read by `httparse`'s grammar (RFC 9112), bodies by `serde_json`'s (RFC 8259). What a request is, is a
+//! Heads are read as `http_parts` reads them (RFC 9112), bodies by `serde_json`'s grammar (RFC 8259). What a request is, is a
 //! relation between all bytes of a connection and a wish or an error, in `specs/Requests.antt`.
 //!
 //! - [`read_request`] gives what all bytes say (`outcome`): the first error in its order, but that of the three
 //!   errors of a head any whose cause holds may come. It takes a front of them, at most 73728 bytes. It makes no read
 //!   once what was taken decides, and asks for no more than the missing bytes of a body. A failed read is counted,
 //!   and nothing else (`took`). A statement is asked by a head alone. Months and rates are within their bounds (`within`).
-//! - [`heads_decide`]: where a head stands the bytes say one thing. [`addresses_are_dotted`]: an address is four
-//!   plain numbers joined by dots.
+//! - [`heads_decide`]: where a head stands the bytes say one thing.
 //! - [`answer`], [`edge_answer`] and [`memory_answer`] are exactly the status line, the headers and the JSON text,
 //!   with the right keys and limits in them.
 //!
@@ -17,14 +16,10 @@
 //! Not promised: that a read returns, or anything of a second request on a connection.
 #![tactic(auto)]
 
-mod address;
 mod answers;
-mod bounds;
 mod demand;
-mod fetch;
+mod errors;
 mod fields;
-mod head;
-mod headers;
 mod laws;
 mod months;
 mod offers;
@@ -34,15 +29,10 @@ mod refusals;
 mod replies;
 mod request;
 mod routes;
-mod sending;
 mod statements;
-mod texts;
-mod wish;
 
 pub use answers::{answer, edge_answer, memory_answer};
-pub use bounds::{MAX_BODY, MAX_HEAD, MAX_LINES};
-pub use headers::{count_named, first_named};
-pub use laws::{addresses_are_dotted, bodies_are_spelled, heads_decide};
+pub use errors::{EdgeErr, ReadErr};
+pub use laws::{bodies_are_spelled, heads_decide};
+pub use machine_calls::Wish;
 pub use request::read_request;
-pub use sending::{Sent, send};
-pub use wish::{EdgeErr, ReadErr, Wish};

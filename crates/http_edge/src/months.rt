@@ -5,8 +5,8 @@ ghost use Rattle.sat_base.specs.declared.limits.TheConstants.{RATE};
 ghost use Rattle.serde_json.specs.View.{view as data_of};
 ghost use Rattle.http_edge.specs.Fields.{month_at, rate_at, rates_at};
 
+use crate::errors::EdgeErr;
 use crate::fields::{text_of, whole_number};
-use crate::wish::EdgeErr;
 use month_text::month_of_text;
 use sat_base::{Month, Rates, limits};
 use serde_json::Value;

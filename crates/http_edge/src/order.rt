@@ -1,7 +1,7 @@
 // The bytes of an order in a body.
 ghost use Rattle.http_edge.specs.Fields.{Gives, needed, order_bytes};
 
-use crate::wish::EdgeErr;
+use crate::errors::EdgeErr;
 use sat_base::{Bytes, Items};
 use std::alloc::Global;
 

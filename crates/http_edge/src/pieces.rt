@@ -3,7 +3,7 @@ ghost use Rattle.std.specs.Prelude.{◌≡◌, option_and_then, IfSome, ◌≤�
 ghost use Rattle.serde_json.specs.View.{view as data_of, items_view};
 ghost use Rattle.http_edge.specs.Fields.{Gives, needed, byte_of, bytes_of, pieces_of};
 
-use crate::wish::EdgeErr;
+use crate::errors::EdgeErr;
 use sat_base::{Indexes, Items};
 use serde_json::Value;
 use std::alloc::Global;

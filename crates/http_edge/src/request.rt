@@ -3,20 +3,19 @@ ghost use Rattle.std.specs.Prelude.{◌≡◌, ◌≤◌, ℕ, List, ◌++◌, l
 ghost use Rattle.httparse.specs.Grammar.{RequestHead};
 ghost use Rattle.httparse.specs.Spans.{IsRequestAt, IsRequestWithin};
 ghost use Rattle.sat_base.specs.Streams.{Took};
+ghost use Rattle.http_parts.specs.Bodies.{MayReadBody};
+ghost use Rattle.http_parts.specs.Heads.{max_head, max_lines};
 ghost use Rattle.http_edge.specs.Demands.{max_body};
-ghost use Rattle.http_edge.specs.Fetches.{MayReadBody};
-ghost use Rattle.http_edge.specs.Heads.{max_head, max_lines};
 ghost use Rattle.http_edge.specs.Requests.{Outcome, BehindHead, IsBodyOutcome, MayRead, MayReadBehind, max_request, unread_as, failed_request};
 ghost use Rattle.http_edge.specs.Wishes.{IsRouteWithin, IsWishWithin};
 
-use crate::bounds::{MAX_HEAD, MAX_LINES};
 use crate::demand::{Demand, demand_of};
-use crate::fetch::{BodyErr, fetch_body};
+use crate::errors::{EdgeErr, ReadErr};
 use crate::fields::wish_of;
-use crate::head::{HeadEnd, read_head};
 use crate::routes::Route;
-use crate::wish::{EdgeErr, ReadErr, Wish};
+use http_parts::{BodyErr, HeadEnd, MAX_HEAD, MAX_LINES, fetch_body, read_head};
 use httparse::spans::{EMPTY_HEADER_SPAN, HeaderSpan, RequestSpans};
+use machine_calls::Wish;
 use order_limits::Keys;
 use sat_base::Source;
 use std::alloc::Global;

@@ -6,7 +6,7 @@ use Rattle.std.specs.List.{list_all}
 use Rattle.std.specs.Cmp.Lexicographic.{slice_cmp}
 use Rattle.std.specs.FinMap.{int_cmp-IsAntisymmetric, nat_cmp-IsAntisymmetric, slice_cmp-IsAntisymmetric}
 use Rattle.std.proofs.lemmas.Cmp.{tied_itself, int_cmp_total, nat_list_cmp_total}
-use Rattle.std.proofs.lemmas.Bool.{and_parts}
+use Rattle.std.proofs.lemmas.Bool.{and_parts, and_from}
 use Rattle.sqlite.specs.Term.{col, holds}
 use Rattle.sqlite.specs.Query.{IsAnswerAs}
 use Rattle.sqlite.specs.Program.{overlay}
@@ -14,7 +14,7 @@ use Rattle.sqlite_rules.specs.Lists.{Has}
 use Rattle.sqlite_rules.specs.Calls.{ids_of}
 use Rattle.sqlite_rules.proofs.ListLemmas.{all_has}
 use Rattle.keeper_sqlite.proofs.Querying.{has_mapped, mapped_has, shown, shows}
-use Rattle.keeper_sqlite.proofs.StoredRows.{AreIdsOf, left_records, left_finds, equal_is}
+use Rattle.keeper_sqlite.proofs.StoredRows.{AreIdsOf, left_records, left_finds}
 use Rattle.sqlite.specs.declared.types.Value.TheVariants.{Null, Int, Blob}
 use Rattle.sqlite.specs.Order.{Row}
 use Rattle.sqlite.specs.Tree.{Trees, rowid}
@@ -37,7 +37,8 @@ use Rattle.keeper_sqlite.specs.Table.{record_table, record_schema, upsert_text, 
 use Rattle.keeper_sqlite.specs.Records.{stored, AreRecords, key_in, entry_in, rows_in, Holds}
 use Rattle.keeper_sqlite.proofs.StatementTexts.{terms, upsert_is, upsert_plain, delete_is, delete_plain, delete_query, same_key}
 use Rattle.keeper_sqlite.proofs.ValueTests.{cast_source, eq_int, eq_blob}
-use Rattle.keeper_sqlite.proofs.TableEdits.{went, same_value, clears, removed, and_from}
+use Rattle.keeper_sqlite.proofs.TableEdits.{went, same_value, clears, removed}
+use Rattle.sat_base.proofs.Tests.{equal}
 
 module _ (limit : Option ℕ) (keys : Keys) (params : Row) (kind : ℕ) (id body : List ℕ) (small : kind < 256) (db : Trees) (ours : AreRecords (db 0)) where
   abbrev it : Task
@@ -114,9 +115,9 @@ module _ (kind : ℕ) (id : List ℕ) (db : Trees) (ours : AreRecords (db 0)) (r
         let test : (is_eq (int_cmp (pos it.kind) (pos kind)) && is_eq (slice_cmp nat_cmp it.id id)) ≡ true =
         sym (keyed it.rowid it.kind kind it.id id it.body) ∙ subst (λ (y : Row). list_all (holds (wanted ∷ y ∷ [])) same_key ≡ true) it.is r.2 in
         let parts = and_parts _ _ test in
-        let k : ◌≡◌ {A = ℤ} (pos it.kind) (pos kind) = int_cmp-IsAntisymmetric _ _ (equal_is _ parts.0) in
+        let k : ◌≡◌ {A = ℤ} (pos it.kind) (pos kind) = int_cmp-IsAntisymmetric _ _ (equal _ parts.0) in
         let kinds : it.kind ≡ kind = cc in
-        let ids = slice_cmp-IsAntisymmetric nat_cmp-IsAntisymmetric it.id id (equal_is _ parts.1) in
+        let ids = slice_cmp-IsAntisymmetric nat_cmp-IsAntisymmetric it.id id (equal _ parts.1) in
         (r.0, r.1, ap key_in it.is ∙ rw (kinds, ids), or_ids (db 0) ours r.0 r.1 ∙ ap Int (sym (x.2 ∙ ap (λ (y : Row). id_in (rowid y)) r.3)));
     complete = λ r h same.
         let it = all_has _ (db 0) r ours.1 h in

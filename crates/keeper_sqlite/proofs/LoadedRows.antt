@@ -1,6 +1,6 @@
 -- The rows of the select are those of the table.
-use Rattle.std.proofs.Common.{◌≡◌, ◌⊎◌, inl, inr, ℕ, pos, ◌<◌, Bool, true, false, ◌&&◌, T, List, [], ◌∷◌, map, codes, None, Some, refl, sym, ap, subst, ◌∙◌, Ordering, Less, Equal, Greater, is_eq}
-use Rattle.std.specs.Ordering.{eq_by_cmp, is_lt}
+use Rattle.std.proofs.Common.{◌≡◌, ◌⊎◌, inl, inr, ℕ, pos, ◌<◌, Bool, true, false, ◌&&◌, T, List, [], ◌∷◌, map, codes, None, Some, refl, sym, ap, subst, ◌∙◌, Ordering, Less, Equal, is_eq}
+use Rattle.std.specs.Ordering.{eq_by_cmp}
 use Rattle.std.specs.FinMap.{entries, from_sorted, entries-from_sorted, get-from_sorted, get-from_entries, same_map}
 use Rattle.std.specs.FinMap.Entries.{find, is_sorted, below_all}
 use Rattle.std.proofs.lemmas.Cmp.{tied_itself}
@@ -25,9 +25,10 @@ use Rattle.keeper_sqlite.specs.Table.{record_schema, select_text}
 use Rattle.keeper_sqlite.specs.Records.{entry_in, entry_shown, rows_in, Holds}
 use Rattle.keeper_sqlite.proofs.StatementTexts.{by_key, select_is, select_plain, select_unlisted, select_query}
 use Rattle.keeper_sqlite.proofs.Querying.{has_mapped, mapped_has, shown, shows}
-use Rattle.keeper_sqlite.proofs.StoredRows.{equal_is}
 use Rattle.sqlite_rules.proofs.ListLemmas.{all_has, all_from}
 use Rattle.keeper_sqlite.specs.Opened.{HaveByteKinds, ShowByteKinds, IsShownOf}
+use Rattle.sat_base.proofs.SortedEdits.{less}
+use Rattle.sat_base.proofs.Tests.{equal}
 
 abbrev Entry : Type 0
 Entry = Key × List ℕ
@@ -35,11 +36,6 @@ Entry = Key × List ℕ
 split : (a b : Bool) → T (a && b) → T a × T b
 split true b h = (tt, h)
 split false b h = absurd h
-
-less : (r : Ordering) → T (is_lt r) → r ≡ Less
-less Less h = refl
-less Equal h = absurd h
-less Greater h = absurd h
 
 below_has : (k : Key) (es : List Entry) (e : Entry) → T (below_all key_cmp k es) → Has es e → key_cmp k e.0 ≡ Less
 below_has k [] e h has = absurd has
@@ -67,7 +63,7 @@ find_none (x ∷ es) q none = rw (none x (inl refl)) (find_none es q (λ e h. no
 find_member : (es : List Entry) → IsFunction es → (e : Entry) → Has es e → find key_cmp e.0 es ≡ Some e.1
 find_member [] one e h = absurd h
 find_member (x ∷ es) one e h = elim (cases_Bool (eq_by_cmp key_cmp e.0 x.0)) [
-  | inl t ↦ rw t (ap Some (sym (one e x h (inl refl) (keys_exact e.0 x.0 (equal_is _ t)))))
+  | inl t ↦ rw t (ap Some (sym (one e x h (inl refl) (keys_exact e.0 x.0 (equal _ t)))))
   | inr f ↦ elim h [
     | inl same ↦ absurd (false≢true (sym f ∙ ap (λ (y : Entry). eq_by_cmp key_cmp e.0 y.0) (sym same) ∙ ap is_eq (tied_itself keys_total e.0)))
     | inr later ↦ rw f (find_member es (λ a b ha hb. one a b (inr ha) (inr hb)) e later)
@@ -88,7 +84,7 @@ find_cases (x ∷ es) q = elim (cases_Bool (eq_by_cmp key_cmp q x.0)) [
 finds_same : (xs ys : List Entry) → IsFunction xs → ((e : Entry) → Has xs e → Has ys e) → ((e : Entry) → Has ys e → Has xs e) → (q : Key) → find key_cmp q xs ≡ find key_cmp q ys
 finds_same xs ys one to from q = elim (find_cases xs q) [
   | inl some ↦
-      let same : q ≡ some.0.0 = keys_exact q some.0.0 (equal_is _ some.2) in
+      let same : q ≡ some.0.0 = keys_exact q some.0.0 (equal _ some.2) in
       let other : IsFunction ys = λ e f he hf. one e f (from e he) (from f hf) in
       ap (λ (k : Key). find key_cmp k xs) same ∙ find_member xs one some.0 some.1 ∙ sym (ap (λ (k : Key). find key_cmp k ys) same ∙ find_member ys other some.0 (to some.0 some.1))
   | inr none ↦ find_none xs q none ∙ sym (find_none ys q (λ e h. none e (from e h)))

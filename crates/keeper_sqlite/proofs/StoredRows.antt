@@ -5,7 +5,7 @@ use Rattle.std.specs.Ordering.{eq_by_cmp, match_ordering}
 use Rattle.std.specs.Cmp.{eq_by_cmp_equiv}
 use Rattle.std.specs.FinMap.Entries.{find, where_key, find-where_key}
 use Rattle.std.proofs.lemmas.Cmp.{tied_itself, alike_right}
-use Rattle.std.proofs.lemmas.Bool.{cases_Bool}
+use Rattle.std.proofs.lemmas.Bool.{cases_Bool, or_parts}
 use Rattle.sqlite.specs.declared.types.Value.TheVariants.{Int}
 use Rattle.sqlite.specs.Order.{Row, value_cmp}
 use Rattle.sqlite.specs.Tree.{IsTable, rowid, has_rowid, put_row, without_rowid}
@@ -19,6 +19,8 @@ use Rattle.sqlite_rules.proofs.TableLemmas.{without_all_has}
 use Rattle.sat_base.specs.Rows.{Key, key_cmp}
 use Rattle.sat_base.proofs.KeyOrder.{keys_total, keys_exact}
 use Rattle.keeper_sqlite.specs.Records.{stored, IsRecord, AreRecords, key_in, entry_in}
+use Rattle.sat_base.proofs.RowEdits.{turned}
+use Rattle.sat_base.proofs.Tests.{equal, exchanged, both-ways}
 
 module _ {X : Type 0} where
   filter_all : (xs : List X) → filter (λ _. true) xs ≡ xs
@@ -39,20 +41,6 @@ module _ {X : Type 0} where
 none_of : (a b : Bool) → (not a && not b) ≡ not (a || b)
 none_of true b = refl
 none_of false b = refl
-
-both_ways : (s t : Bool) → (s ≡ true → t ≡ true) → (t ≡ true → s ≡ true) → s ≡ t
-both_ways true t f g = sym (f refl)
-both_ways false true f g = g refl
-both_ways false false f g = refl
-
-turned : {A : Type 0} (b : Bool) (x y : A) → cond (not b) x y ≡ cond b y x
-turned true x y = refl
-turned false x y = refl
-
-pub equal_is : (o : Ordering) → is_eq o ≡ true → o ≡ Equal
-equal_is Less h = absurd (cc)
-equal_is Equal h = refl
-equal_is Greater h = absurd (cc)
 
 any_id : List ℤ → Row → Bool
 any_id ids r = list_any (λ i. has_rowid i r) ids
@@ -90,12 +78,12 @@ module _ (rows : List Row) (ours : AreRecords rows) (key : Key) where
     rowid_of r h = let it = all_has _ rows r ours.1 h in rw it.is
 
     picked : (r : Row) → Has rows r → list_any (λ i. has_rowid i r) ids ≡ eq_by_cmp key_cmp key (key_in r)
-    picked r h = both_ways _ _
+    picked r h = both-ways _ _
         (λ t. let some = some_has (λ i. has_rowid i r) ids t in
         let it = are.sound some.0 some.1 in
-        let same : r ≡ it.0 = tied_same rows r it.0 ours.0 h it.1 (subst (λ v. value_cmp (rowid r) v ≡ Equal) (sym it.3) (equal_is _ some.2)) in
+        let same : r ≡ it.0 = tied_same rows r it.0 ours.0 h it.1 (subst (λ v. value_cmp (rowid r) v ≡ Equal) (sym it.3) (equal _ some.2)) in
         ap (λ (x : Row). eq_by_cmp key_cmp key (key_in x)) same ∙ ap (eq_by_cmp key_cmp key) it.2 ∙ ap is_eq (tied_itself keys_total key))
-        (λ t. let has = are.complete r h (sym (keys_exact key (key_in r) (equal_is _ t))) in
+        (λ t. let has = are.complete r h (sym (keys_exact key (key_in r) (equal _ t))) in
         some_from (λ i. has_rowid i r) ids (id_in (rowid r)) has (ap (λ v. is_eq (value_cmp v (Int (id_in (rowid r))))) (rowid_of r h) ∙ ap is_eq (tied_itself value_cmp_total (Int (id_in (rowid r))))))
 
     left_by_key : without_all rows ids ≡ filter (λ r. not (eq_by_cmp key_cmp key (key_in r))) rows
@@ -117,15 +105,6 @@ module _ (rows : List Row) (ours : AreRecords rows) (key : Key) where
         ∙ find-where_key key_cmp (λ x. not (eq_by_cmp key_cmp key x)) q (λ x e. ap (λ r. not (is_eq r)) (sym (alike_right keys_total q x key e))) (map entry_in rows)
         ∙ turned (eq_by_cmp key_cmp key q) _ _ ∙ ap (λ b. cond b None (find key_cmp q (map entry_in rows))) ((eq_by_cmp_equiv keys_total).symm key q)
 
-swapped : {A : Type 0} (a b : Bool) (x y z : A) → (a ≡ true → b ≡ true → ⊥) → cond a x (cond b y z) ≡ cond b y (cond a x z)
-swapped true true x y z apart = absurd (apart refl refl)
-swapped true false x y z apart = refl
-swapped false b x y z apart = refl
-
-or_parts : (a b : Bool) → (a || b) ≡ false → (a ≡ false) × (b ≡ false)
-or_parts true b h = absurd (cc)
-or_parts false b h = (refl, h)
-
 module _ (at : ℤ) (kind : ℕ) (id body : List ℕ) (small : kind < 256) where
   abbrev new : Row
   new = stored at kind id body
@@ -135,8 +114,8 @@ module _ (at : ℤ) (kind : ℕ) (id body : List ℕ) (small : kind < 256) where
 
   apart : (r : Row) (q : Key) → eq_by_cmp key_cmp (kind, id) (key_in r) ≡ false → eq_by_cmp key_cmp q (key_in r) ≡ true → eq_by_cmp key_cmp q (kind, id) ≡ true → ⊥
   apart r q other a b =
-      let k : q ≡ key_in r = keys_exact _ _ (equal_is _ a) in
-      let l : q ≡ (kind, id) = keys_exact _ _ (equal_is _ b) in
+      let k : q ≡ key_in r = keys_exact _ _ (equal _ a) in
+      let l : q ≡ (kind, id) = keys_exact _ _ (equal _ b) in
       let t = ap (λ (x : Key). eq_by_cmp key_cmp x (key_in r)) (sym l) ∙ ap (λ (x : Key). eq_by_cmp key_cmp x (key_in r)) k ∙ ap is_eq (tied_itself keys_total (key_in r)) in cc
 
   pub put_finds : (rows : List Row) → is_taken rows new ≡ false → ((r : Row) → Has rows r → eq_by_cmp key_cmp (kind, id) (key_in r) ≡ false) → (q : Key)
@@ -146,6 +125,6 @@ module _ (at : ℤ) (kind : ℕ) (id body : List ℕ) (small : kind < 256) where
     where
       go : (o : Ordering) → value_cmp (rowid r) (rowid new) ≡ o → is_eq (value_cmp (rowid r) (rowid new)) ≡ false → find key_cmp q (map entry_in (put_row new rows)) ≡ cond (eq_by_cmp key_cmp q (kind, id)) (Some body) (find key_cmp q (map entry_in rows))
           → find key_cmp q (map entry_in (match_ordering o (r ∷ put_row new rows) (new ∷ rows) (new ∷ r ∷ rows))) ≡ cond (eq_by_cmp key_cmp q (kind, id)) (Some body) (find key_cmp q (map entry_in (r ∷ rows)))
-      go Less e f later = ap (cond (eq_by_cmp key_cmp q (key_in r)) (Some (entry_in r).1)) later ∙ swapped (eq_by_cmp key_cmp q (key_in r)) (eq_by_cmp key_cmp q (kind, id)) _ _ _ (apart r q (lacks r (inl refl)))
+      go Less e f later = ap (cond (eq_by_cmp key_cmp q (key_in r)) (Some (entry_in r).1)) later ∙ exchanged (eq_by_cmp key_cmp q (key_in r)) (eq_by_cmp key_cmp q (kind, id)) _ _ _ (apart r q (lacks r (inl refl)))
       go Equal e f later = absurd (let g = ap is_eq e in cc)
       go Greater e f later = refl

@@ -5,7 +5,7 @@ use Rattle.std.specs.Cmp.Lexicographic.{slice_cmp}
 use Rattle.std.specs.FinMap.{insert, remove, from_entries, same_map, get-insert, get-remove, get-from_entries, int_cmp-IsAntisymmetric, nat_cmp-IsAntisymmetric, slice_cmp-IsAntisymmetric}
 use Rattle.std.specs.FinMap.Entries.{find}
 use Rattle.std.proofs.lemmas.Cmp.{tied_itself, int_cmp_total, nat_list_cmp_total}
-use Rattle.std.proofs.lemmas.Bool.{and_parts, not-true}
+use Rattle.std.proofs.lemmas.Bool.{and_parts, not-true, or_cases, or_right, and_from}
 use mathlib.Core.Bool.{false≢true}
 use Rattle.sqlite.specs.Cast.{cast_row}
 use Rattle.sqlite.specs.declared.types.Value.TheVariants.{Int, Blob}
@@ -28,7 +28,9 @@ use Rattle.sat_base.proofs.KeyOrder.{keys_total, keys_exact}
 use Rattle.keeper_sqlite.specs.Table.{record_table, record_schema}
 use Rattle.keeper_sqlite.specs.Records.{stored, AreRecords, key_in, entry_in}
 use Rattle.keeper_sqlite.proofs.ValueTests.{conflict_is, cast_again}
-use Rattle.keeper_sqlite.proofs.StoredRows.{AreIdsOf, left_records, left_lacks, left_finds, put_records, put_finds, equal_is}
+use Rattle.keeper_sqlite.proofs.StoredRows.{AreIdsOf, left_records, left_lacks, left_finds, put_records, put_finds}
+use Rattle.keeper_sqlite.proofs.Querying.{has_mapped}
+use Rattle.sat_base.proofs.Tests.{equal}
 
 -- a part that gave a value did not stop on the way
 pub went : {B E R : Type 0} {b : B} {Stops : E → Type 0} → ((stop : E) × Stops stop × (Ok b ≡ Err stop)) ⊎ R → R
@@ -37,11 +39,6 @@ went (inr on) = on
 
 pub same_value : {B E : Type 0} {a b : B} → ◌≡◌ {A = Result B E} (Ok a) (Ok b) → a ≡ b
 same_value e = cc
-
-has_mapped : {X Y : Type 0} (f : X → Y) (xs : List X) (y : Y) → Has (map f xs) y → (x : X) × Has xs x × (y ≡ f x)
-has_mapped f [] y h = absurd h
-has_mapped f (x ∷ xs) y (inl h) = (x, inl refl, h)
-has_mapped f (x ∷ xs) y (inr h) = let it = has_mapped f xs y h in (it.0, inr it.1, it.2)
 
 mapped_has : {X Y : Type 0} (f : X → Y) (xs : List X) (x : X) → Has xs x → Has (map f xs) (f x)
 mapped_has f [] x h = absurd h
@@ -64,17 +61,6 @@ removed old new k same = same_map keys_total keys_exact _ _ (λ q.
 replaced : (b : Bool) (v : List ℕ) (o : Option (List ℕ)) → cond b (Some v) (cond b None o) ≡ cond b (Some v) o
 replaced true v o = refl
 replaced false v o = refl
-
-or_cases : (a b : Bool) → (a || b) ≡ true → (a ≡ true) ⊎ (b ≡ true)
-or_cases true b h = inl refl
-or_cases false b h = inr h
-
-or_last : (a b : Bool) → b ≡ true → (a || b) ≡ true
-or_last true b h = refl
-or_last false b h = h
-
-pub and_from : (a b : Bool) → a ≡ true → b ≡ true → (a && b) ≡ true
-and_from a b p q = rw (p, q)
 
 module _ (kind : ℕ) (id body : List ℕ) (small : kind < 256) (rows : List Row) (ours : AreRecords rows) where
   abbrev key : Key
@@ -100,9 +86,9 @@ module _ (kind : ℕ) (id body : List ℕ) (small : kind < 256) (rows : List Row
             false≢true (sym free ∙ some_from (λ y. is_eq (value_cmp (rowid y) (rowid fresh))) rows r h there))
         | inr both ↦
             let parts = and_parts _ _ both in
-            let k : ◌≡◌ {A = ℤ} (pos it.kind) (pos kind) = int_cmp-IsAntisymmetric _ _ (equal_is _ parts.0) in
+            let k : ◌≡◌ {A = ℤ} (pos it.kind) (pos kind) = int_cmp-IsAntisymmetric _ _ (equal _ parts.0) in
             let kinds : it.kind ≡ kind = cc in
-            let ids = slice_cmp-IsAntisymmetric nat_cmp-IsAntisymmetric it.id id (equal_is _ parts.1) in
+            let ids = slice_cmp-IsAntisymmetric nat_cmp-IsAntisymmetric it.id id (equal _ parts.1) in
             ap key_in it.is ∙ rw (kinds, ids)
       ]
 
@@ -114,7 +100,7 @@ module _ (kind : ℕ) (id body : List ℕ) (small : kind < 256) (rows : List Row
       let kinds : it.kind ≡ kind = ap (λ (k : Key). k.0) is in
       let ids : it.id ≡ id = ap (λ (k : Key). k.1) is in
       ap (λ (y : Row). conflicts None record_schema.indexes record_table fresh y) it.is ∙ conflict_is it.rowid (next_rowid rows) it.kind kind it.id id it.body body
-      ∙ or_last _ _ (and_from _ _ (ap (λ n. is_eq (int_cmp (pos n) (pos kind))) kinds ∙ ap is_eq (tied_itself int_cmp_total (pos kind))) (ap (λ n. is_eq (slice_cmp nat_cmp n id)) ids ∙ ap is_eq (tied_itself nat_list_cmp_total id)))
+      ∙ or_right _ _ (and_from _ _ (ap (λ n. is_eq (int_cmp (pos n) (pos kind))) kinds ∙ ap is_eq (tied_itself int_cmp_total (pos kind))) (ap (λ n. is_eq (slice_cmp nat_cmp n id)) ids ∙ ap is_eq (tied_itself nat_list_cmp_total id)))
 
   rowid_of : (r : Row) → Has rows r → rowid r ≡ Int (id_in (rowid r))
   rowid_of r h = let it = all_has _ rows r ours.1 h in rw it.is

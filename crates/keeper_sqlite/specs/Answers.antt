@@ -1,4 +1,4 @@
--- Which errors of the database are want of memory. Every other one is a fault.
+-- Which errors of the database are running out of memory. Every other one is a fault.
 use Rattle.std.specs.Prelude.{Bool, true, false}
 use Rattle.sqlite.specs.declared.error.Error.{Error}
 use Rattle.sqlite.specs.declared.error.Error.TheVariants.{SqliteFailure}

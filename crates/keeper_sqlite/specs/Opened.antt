@@ -25,7 +25,7 @@ pub record IsShownOf (trees : Trees) (rows : List Row) : Type 0 where
   pub in_order : (list : List Kept) → AreInOrder list → map entry list ≡ map entry_shown rows → AreThe (rows_in trees) list
   pub kinds : ShowByteKinds rows → HaveByteKinds (trees 0)
 
--- a load that gave no rows: its fault was counted, or memory was wanting
+-- a load that gave no rows: its fault was counted, or memory ran out
 abbrev pub IsRefused : Loaded → ℕ → ℕ → Type 0
 IsRefused (loaded.Rows list) before after = ⊥
 IsRefused loaded.Fault before after = after ≡ raised before

@@ -14,7 +14,7 @@ pub enum Refused {
     NoMemory,
 }
 
-/// Want of memory or a fault, which is counted.
+/// Running out of memory or a fault, which is counted.
 pub(crate) fn refusal(error: Error, faults: &mut u64) -> Refused
     ensures cause { result ≡ refusal_of error }
     ensures counted { faults.new ≡ counted (is_fault result) faults.old }

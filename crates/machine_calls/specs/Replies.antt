@@ -5,7 +5,7 @@ use Rattle.machine_calls.specs.declared.call.Call.TheVariants as calls
 use Rattle.machine_calls.specs.declared.reply.Reply.{Reply}
 use Rattle.machine_calls.specs.declared.reply.Reply.TheVariants as replies
 
--- a reply of a step that wasn't made: the store failed to keep it, or memory was wanting
+-- a reply of a step that wasn't made: the store failed to keep it, or memory ran out
 abbrev pub is_lost : Reply → Bool
 is_lost (replies.StoreFault before after) = true
 is_lost replies.NoMemory = true
@@ -13,16 +13,8 @@ is_lost _ = false
 
 -- a call that a customer, a node or the operator asks; the others the satellite makes on its own account
 abbrev pub is_request : Call → Bool
-is_request (calls.PlanAudit now words) = false
-is_request (calls.EndAudit now judged) = false
-is_request (calls.PlanRecheck now) = false
-is_request (calls.EndRecheck now plan checked) = false
-is_request (calls.PlanRepair now words) = false
-is_request (calls.EndRepair now outcome) = false
-is_request (calls.TallyHour now) = false
-is_request (calls.PlanExit now words) = false
-is_request (calls.EndExit now outcome) = false
-is_request _ = true
+is_request (calls.Asked now words wish) = true
+is_request (calls.Own now task) = false
 
 -- a reply to what a customer, a node or the operator can ask; the others are to what the satellite asks on its own account
 abbrev pub is_told : Reply → Bool

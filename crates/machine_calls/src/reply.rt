@@ -102,7 +102,7 @@ pub enum Reply {
         before: u64,
         after: u64,
     },
-    /// Memory was wanting.
+    /// Memory ran out.
     NoMemory,
 }
 

@@ -36,6 +36,8 @@ use Rattle.segment_core.specs.Commit.{is_among}
 use Rattle.machine_calls.specs.Replies.{is_lost}
 use Rattle.machine_calls.specs.declared.call.Call.{Call}
 use Rattle.machine_calls.specs.declared.call.Call.TheVariants as calls
+use Rattle.machine_calls.specs.declared.task.Task.TheVariants as tasks
+use Rattle.machine_calls.specs.declared.wish.Wish.TheVariants as wishes
 use Rattle.machine_calls.specs.declared.change.RecChange.{RecChange}
 use Rattle.machine_calls.specs.declared.change.RecChange.TheVariants as changes
 use Rattle.machine_calls.specs.declared.refusal.Refusal.TheVariants as refusals
@@ -79,8 +81,9 @@ leaves-settled (changes.Remove (keys.Plan kind)) t other = refl
 leaves-settled (changes.Remove (keys.Containment node)) t other = refl
 
 -- a call settles, or leaves the rows
-settles_or : (call : Call) → (is_among (kinds_of call) 6 ≡ false) ⊎ ((now : ℕ) × (node : NodeId) × (bytes : List ℕ) × (call ≡ calls.Settle now node bytes))
-settles_or (calls.Settle now node bytes) = inr (now, node, bytes, refl)
+settles_or : (call : Call) → (is_among (kinds_of call) 6 ≡ false) ⊎ ((now : ℕ) × (words : List ℕ) × (node : NodeId) × (bytes : List ℕ) × (call ≡ calls.Asked now words (wishes.Settle node bytes)))
+settles_or (calls.Asked now words (wishes.Settle node bytes)) = inr (now, words, node, bytes, refl)
+settles_or (calls.Own now tasks.TallyHour) = inl refl
 settles_or _ = inl refl
 
 -- the rows behind a step are those behind its case
@@ -142,9 +145,9 @@ settled_by t time node bytes amount said = found (node_at t.nodes node) said
     found (Some x) said = by (settlable t.settled t.setup.caps.settled t.setup.secret node time bytes) refl said
 
 -- what settles in a step
-settled_step : (t : Tables) (now : ℕ) (node : NodeId) (bytes : List ℕ) (amount : ℕ) → (step t (calls.Settle now node bytes)).reply ≡ replies.Settled amount
-    → IsSettled t node (risen t now) bytes amount (after t (calls.Settle now node bytes)).settled
-settled_step t now node bytes amount said = go t.stopped said
+settled_step : (t : Tables) (now : ℕ) (words : List ℕ) (node : NodeId) (bytes : List ℕ) (amount : ℕ) → (step t (calls.Asked now words (wishes.Settle node bytes))).reply ≡ replies.Settled amount
+    → IsSettled t node (risen t now) bytes amount (after t (calls.Asked now words (wishes.Settle node bytes))).settled
+settled_step t now words node bytes amount said = go t.stopped said
   where
     go : (b : Bool) → (if b then refused refusals.Stopped else swept t (settle t (risen t now) node bytes)).reply ≡ replies.Settled amount
         → IsSettled t node (risen t now) bytes amount (all_changed t (if b then refused refusals.Stopped else swept t (settle t (risen t now) node bytes)).changes).settled
@@ -191,7 +194,7 @@ stays_settling t time node bytes k row at = found (node_at t.nodes node)
 stays_case : (t : Tables) (call : Call) (k : ℕ) (row : SettledRow) → row_of t.settled k ≡ Some row → row_of (all_changed t (case_of t call).changes).settled k ≡ Some row
 stays_case t call k row at = elim (settles_or call) [
   | inl other ↦ ap (λ (rows : List SettledRow). row_of rows k) (frame (λ (x : Tables). x.settled) 6 leaves-settled (kinds_of call) (case_of t call).changes t (touched t call) other) ∙ at
-  | inr settles ↦ subst (λ (c : Call). row_of (all_changed t (case_of t c).changes).settled k ≡ Some row) (sym settles.3) (stays_settling t (risen t settles.0) settles.1 settles.2 k row at)
+  | inr settles ↦ subst (λ (c : Call). row_of (all_changed t (case_of t c).changes).settled k ≡ Some row) (sym settles.4) (stays_settling t (risen t settles.0) settles.2 settles.3 k row at)
 ]
 
 stays_said : (t : Tables) (said : Said) (k : ℕ) (row : SettledRow) → row_of t.settled k ≡ Some row → row_of (taken t said).settled k ≡ Some row
@@ -235,16 +238,16 @@ record IsSettledAt (t : Tables) (h : List Said) (i : ℕ) (said : Said) (node : 
   absent : row_of (at_place t h i).settled (key row) ≡ None
   rows : (taken (at_place t h i) said).settled ≡ with_row key (at_place t h i).settled row
 
-settled_at : (t : Tables) (h : List Said) → IsValid t → IsLegal t h → (i : ℕ) (said : Said) → slice_get h i ≡ Some said → (now : ℕ) (node : NodeId) (bytes : List ℕ) (amount : ℕ)
-    → said.call ≡ calls.Settle now node bytes → said.reply ≡ replies.Settled amount → IsBytes bytes → IsSettledAt t h i said node bytes amount
-settled_at t h v legal i said at now node bytes amount is_call is_reply fits =
+settled_at : (t : Tables) (h : List Said) → IsValid t → IsLegal t h → (i : ℕ) (said : Said) → slice_get h i ≡ Some said → (now : ℕ) (words : List ℕ) (node : NodeId) (bytes : List ℕ) (amount : ℕ)
+    → said.call ≡ calls.Asked now words (wishes.Settle node bytes) → said.reply ≡ replies.Settled amount → IsBytes bytes → IsSettledAt t h i said node bytes amount
+settled_at t h v legal i said at now words node bytes amount is_call is_reply fits =
     let parts = legal-append (take i h) (said ∷ drop (suc i) h) t (subst (IsLegal t) (cut h i said at) legal) in
     let here : Tables = at_place t h i in
     let right : IsRight here said = parts.1.0 in
     let setup : here.setup ≡ t.setup = (follows_all (take i h) t v parts.0).grows.setup in
     let found : is_lost said.reply ≡ false = ap is_lost is_reply in
-    let answer : (step here (calls.Settle now node bytes)).reply ≡ replies.Settled amount = ap (λ (c : Call). (step here c).reply) (sym is_call) ∙ sym (right.answer found) ∙ is_reply in
-    let s = settled_step here now node bytes amount answer in
+    let answer : (step here (calls.Asked now words (wishes.Settle node bytes))).reply ≡ replies.Settled amount = ap (λ (c : Call). (step here c).reply) (sym is_call) ∙ sym (right.answer found) ∙ is_reply in
+    let s = settled_step here now words node bytes amount answer in
     let o = s.new.order in
     let made = s.new.made in
     let read : order_of t.setup.secret bytes ≡ Ok o = ap (λ (x : Setup). order_of x.secret bytes) (sym setup) ∙ s.new.read in
@@ -292,12 +295,12 @@ first_at t h v legal fits i said at node bytes amount s = record {
     legal_front : IsLegal t (take i h)
     legal_front = (legal-append (take i h) (said ∷ drop (suc i) h) t (subst (IsLegal t) (cut h i said at) legal)).0
 
-    settled_before : (j : ℕ) (other : Said) → j < i → slice_get h j ≡ Some other → (now : ℕ) (from : NodeId) (text : List ℕ) (paid : ℕ) → other.call ≡ calls.Settle now from text → other.reply ≡ replies.Settled paid
+    settled_before : (j : ℕ) (other : Said) → j < i → slice_get h j ≡ Some other → (now : ℕ) (words : List ℕ) (from : NodeId) (text : List ℕ) (paid : ℕ) → other.call ≡ calls.Asked now words (wishes.Settle from text) → other.reply ≡ replies.Settled paid
         → (p : Order) → SettlesAs t.setup.secret from text paid p → place p.limit.serial p.limit.node ≡ k → ⊥
-    settled_before j other lt at_j now from text paid is_call is_reply p settles same =
+    settled_before j other lt at_j now words from text paid is_call is_reply p settles same =
         let front = taken_front h i j other lt at_j in
         let bytes_of : IsBytes text = subst HasBytes is_call (fits j other at_j) in
-        let e = settled_at t (take i h) v legal_front j other front now from text paid is_call is_reply bytes_of in
+        let e = settled_at t (take i h) v legal_front j other front now words from text paid is_call is_reply bytes_of in
         let one : e.order ≡ p = one_order t.setup.secret text e.order p e.read_as (order_read t.setup.secret text p settles.good) in
         let its : key e.row ≡ k = e.its_key ∙ ap (λ (o : Order). place o.limit.serial o.limit.node) one ∙ same in
         let there : row_of (taken (at_place t (take i h) j) other).settled (key e.row) ≡ Some e.row =
@@ -311,14 +314,14 @@ first_at t h v legal fits i said at node bytes amount s = record {
 
     before : (j : ℕ) (other : Said) → j < i → slice_get h j ≡ Some other → (call : Call) (reply : Reply) → other.call ≡ call → other.reply ≡ reply
         → IfSettled call reply (λ from text paid. (p : Order) → SettlesAs t.setup.secret from text paid p → place p.limit.serial p.limit.node ≡ k → ⊥)
-    before j other lt at_j (calls.Settle now from text) (replies.Settled paid) is_call is_reply = settled_before j other lt at_j now from text paid is_call is_reply
+    before j other lt at_j (calls.Asked now words (wishes.Settle from text)) (replies.Settled paid) is_call is_reply = settled_before j other lt at_j now words from text paid is_call is_reply
     before j other lt at_j _ _ is_call is_reply = tt
 
 pub settle_once : (t : Tables) (h : List Said) → IsValid t → IsLegal t h → AreOfBytes h → SettleOnce t h
 settle_once t h v legal fits i said at = go said.call said.reply refl refl
   where
     go : (call : Call) (reply : Reply) → said.call ≡ call → said.reply ≡ reply → IfSettled call reply (λ node bytes amount. (o : Order) × SettlesAs t.setup.secret node bytes amount o × IsFirst t h i o)
-    go (calls.Settle now node bytes) (replies.Settled amount) is_call is_reply =
-        let s = settled_at t h v legal i said at now node bytes amount is_call is_reply (subst HasBytes is_call (fits i said at)) in
+    go (calls.Asked now words (wishes.Settle node bytes)) (replies.Settled amount) is_call is_reply =
+        let s = settled_at t h v legal i said at now words node bytes amount is_call is_reply (subst HasBytes is_call (fits i said at)) in
         (s.order, s.settles, first_at t h v legal fits i said at node bytes amount s)
     go _ _ is_call is_reply = tt

@@ -12,6 +12,8 @@ use Rattle.std.specs.Cmp.Lexicographic.{pointwise}
 use Rattle.sat_base.specs.Ranks.{customer_rank, kept_rank}
 use Rattle.machine_calls.specs.declared.call.Call.{Call}
 use Rattle.machine_calls.specs.declared.call.Call.TheVariants as calls
+use Rattle.machine_calls.specs.declared.task.Task.TheVariants as tasks
+use Rattle.machine_calls.specs.declared.wish.Wish.TheVariants as wishes
 use Rattle.machine_calls.specs.declared.change.RecChange.{RecChange}
 use Rattle.machine_calls.specs.declared.change.RecChange.TheVariants as changes
 use Rattle.sat_base.specs.declared.records.Key.TheVariants as keys
@@ -27,6 +29,7 @@ use Rattle.machine_step.specs.Containment.{swept}
 use Rattle.sat_base.specs.declared.settings.Customer.{Customer}
 use Rattle.segment_core.specs.Commit.{is_among}
 use Rattle.machine_step.proofs.Touches.{kinds_of, touched, customers-frame, kept-frame}
+use Rattle.machine_step.proofs.StepLemmas.{step-running}
 
 same_list : (xs : List ℕ) → pointwise nat_eq xs xs ≡ true
 same_list [] = refl
@@ -59,12 +62,12 @@ record Remembers (t : Tables) (r : Request) (done : Done) : Type 0 where
 
 -- then it repeats
 repeats : (t : Tables) (r : Request) (done : Done) (call : Call) → Remembers t r done → request_of call ≡ Some r → step t call ≡ unchanged (replies.Done done)
-repeats t r done (calls.AddNode now request addr port free) m e = grind (arith, nat_tests)
-repeats t r done (calls.AddCustomer now request) m e = grind (arith, nat_tests)
-repeats t r done (calls.Begin now customer request len words) m e = grind (arith, nat_tests)
-repeats t r done (calls.Commit now customer request segment indexes) m e = grind (arith, nat_tests)
-repeats t r done (calls.Get now customer request segment) m e = grind (arith, nat_tests)
-repeats t r done (calls.Delete now customer request segment) m e = grind (arith, nat_tests)
+repeats t r done (calls.Asked now words (wishes.AddNode request addr port free)) m e = grind (arith, nat_tests)
+repeats t r done (calls.Asked now words (wishes.AddCustomer request)) m e = grind (arith, nat_tests)
+repeats t r done (calls.Asked now words (wishes.Begin customer request len)) m e = grind (arith, nat_tests)
+repeats t r done (calls.Asked now words (wishes.Commit customer request segment indexes)) m e = grind (arith, nat_tests)
+repeats t r done (calls.Asked now words (wishes.Get customer request segment)) m e = grind (arith, nat_tests)
+repeats t r done (calls.Asked now words (wishes.Delete customer request segment)) m e = grind (arith, nat_tests)
 repeats t r done _ m e = cc
 
 -- what is kept for a caller, after an outcome
@@ -83,18 +86,20 @@ customers_unseen t call k other known = ap (λ (rows : List Customer). is_none (
 kept_stays : (t : Tables) (r : Request) (kept : Kept) (call : Call) → kept_at t.kept r.caller ≡ Some kept → kept.number ≡ r.number
     → IfSome (request_of call) (λ q. q.caller ≡ r.caller → (q.number ≡ r.number → ⊥) → is_done (case_of t call).reply ≡ false)
     → kept_after t (case_of t call) r.caller ≡ Some kept
-kept_stays t r kept (calls.AddNode now request addr port free) at number quiet = grind (arith, nat_tests, quiet, row_at-with_row kept_rank t.kept)
-kept_stays t r kept (calls.AddCustomer now request) at number quiet = grind (arith, nat_tests, quiet, row_at-with_row kept_rank t.kept)
-kept_stays t r kept (calls.Begin now customer request len words) at number quiet = grind (arith, nat_tests, quiet, row_at-with_row kept_rank t.kept)
-kept_stays t r kept (calls.Commit now customer request segment indexes) at number quiet = grind (arith, nat_tests, quiet, row_at-with_row kept_rank t.kept)
-kept_stays t r kept (calls.Get now customer request segment) at number quiet = grind (arith, nat_tests, quiet, row_at-with_row kept_rank t.kept)
-kept_stays t r kept (calls.Delete now customer request segment) at number quiet = grind (arith, nat_tests, quiet, row_at-with_row kept_rank t.kept)
-kept_stays t r kept calls.Stop at number quiet = at
+kept_stays t r kept (calls.Asked now words (wishes.AddNode request addr port free)) at number quiet = grind (arith, nat_tests, quiet, row_at-with_row kept_rank t.kept)
+kept_stays t r kept (calls.Asked now words (wishes.AddCustomer request)) at number quiet = grind (arith, nat_tests, quiet, row_at-with_row kept_rank t.kept)
+kept_stays t r kept (calls.Asked now words (wishes.Begin customer request len)) at number quiet = grind (arith, nat_tests, quiet, row_at-with_row kept_rank t.kept)
+kept_stays t r kept (calls.Asked now words (wishes.Commit customer request segment indexes)) at number quiet = grind (arith, nat_tests, quiet, row_at-with_row kept_rank t.kept)
+kept_stays t r kept (calls.Asked now words (wishes.Get customer request segment)) at number quiet = grind (arith, nat_tests, quiet, row_at-with_row kept_rank t.kept)
+kept_stays t r kept (calls.Asked now words (wishes.Delete customer request segment)) at number quiet = grind (arith, nat_tests, quiet, row_at-with_row kept_rank t.kept)
+kept_stays t r kept (calls.Asked now words wishes.Stop) at number quiet = at
+kept_stays t r kept (calls.Own now tasks.TallyHour) at number quiet = kept_unseen t (calls.Own now tasks.TallyHour) r.caller kept refl at
 kept_stays t r kept call at number quiet = kept_unseen t call r.caller kept refl at
 
 -- no step takes a customer away
 customers_stay : (t : Tables) (call : Call) (k : ℕ) → is_none (customer_at t.customers k) ≡ false → is_none (customer_at (all_changed t (case_of t call).changes).customers k) ≡ false
-customers_stay t (calls.AddCustomer now request) k known = grind (arith, nat_tests, row_at-with_row customer_rank t.customers)
+customers_stay t (calls.Asked now words (wishes.AddCustomer request)) k known = grind (arith, nat_tests, row_at-with_row customer_rank t.customers)
+customers_stay t (calls.Own now tasks.TallyHour) k known = customers_unseen t (calls.Own now tasks.TallyHour) k refl known
 customers_stay t call k known = customers_unseen t call k refl known
 
 -- the row keeps the request and its answer
@@ -104,27 +109,27 @@ Keeps r done kept = (kept.number ≡ r.number) × (same_asked kept.asked r.asked
 -- an accepted request is kept
 kept_first : (t : Tables) (r : Request) (done : Done) (call : Call) → request_of call ≡ Some r → (case_of t call).reply ≡ replies.Done done
     → IsSomeAnd (kept_after t (case_of t call) r.caller) (Keeps r done)
-kept_first t r done (calls.AddNode now request addr port free) e h = grind (arith, nat_tests, row_at-with_row kept_rank t.kept, same_self r.asked)
-kept_first t r done (calls.AddCustomer now request) e h = grind (arith, nat_tests, row_at-with_row kept_rank t.kept, same_self r.asked)
-kept_first t r done (calls.Begin now customer request len words) e h = grind (arith, nat_tests, row_at-with_row kept_rank t.kept, same_self r.asked)
-kept_first t r done (calls.Commit now customer request segment indexes) e h = grind (arith, nat_tests, row_at-with_row kept_rank t.kept, same_self r.asked)
-kept_first t r done (calls.Get now customer request segment) e h = grind (arith, nat_tests, row_at-with_row kept_rank t.kept, same_self r.asked)
-kept_first t r done (calls.Delete now customer request segment) e h = grind (arith, nat_tests, row_at-with_row kept_rank t.kept, same_self r.asked)
+kept_first t r done (calls.Asked now words (wishes.AddNode request addr port free)) e h = grind (arith, nat_tests, row_at-with_row kept_rank t.kept, same_self r.asked)
+kept_first t r done (calls.Asked now words (wishes.AddCustomer request)) e h = grind (arith, nat_tests, row_at-with_row kept_rank t.kept, same_self r.asked)
+kept_first t r done (calls.Asked now words (wishes.Begin customer request len)) e h = grind (arith, nat_tests, row_at-with_row kept_rank t.kept, same_self r.asked)
+kept_first t r done (calls.Asked now words (wishes.Commit customer request segment indexes)) e h = grind (arith, nat_tests, row_at-with_row kept_rank t.kept, same_self r.asked)
+kept_first t r done (calls.Asked now words (wishes.Get customer request segment)) e h = grind (arith, nat_tests, row_at-with_row kept_rank t.kept, same_self r.asked)
+kept_first t r done (calls.Asked now words (wishes.Delete customer request segment)) e h = grind (arith, nat_tests, row_at-with_row kept_rank t.kept, same_self r.asked)
 kept_first t r done _ e h = cc
 
 -- and its customer, where it has one, is known
 known_first : (t : Tables) (r : Request) (done : Done) (call : Call) → request_of call ≡ Some r → (case_of t call).reply ≡ replies.Done done
     → is_customers r.asked ≡ true → is_none (customer_at t.customers r.caller) ≡ false
-known_first t r done (calls.AddNode now request addr port free) e h o = grind (arith, nat_tests)
-known_first t r done (calls.AddCustomer now request) e h o = grind (arith, nat_tests)
-known_first t r done (calls.Begin now customer request len words) e h o = grind (arith, nat_tests)
-known_first t r done (calls.Commit now customer request segment indexes) e h o = grind (arith, nat_tests)
-known_first t r done (calls.Get now customer request segment) e h o = grind (arith, nat_tests)
-known_first t r done (calls.Delete now customer request segment) e h o = grind (arith, nat_tests)
+known_first t r done (calls.Asked now words (wishes.AddNode request addr port free)) e h o = grind (arith, nat_tests)
+known_first t r done (calls.Asked now words (wishes.AddCustomer request)) e h o = grind (arith, nat_tests)
+known_first t r done (calls.Asked now words (wishes.Begin customer request len)) e h o = grind (arith, nat_tests)
+known_first t r done (calls.Asked now words (wishes.Commit customer request segment indexes)) e h o = grind (arith, nat_tests)
+known_first t r done (calls.Asked now words (wishes.Get customer request segment)) e h o = grind (arith, nat_tests)
+known_first t r done (calls.Asked now words (wishes.Delete customer request segment)) e h o = grind (arith, nat_tests)
 known_first t r done _ e h o = cc
 
 -- the mark that stops is no record
-stopped_by : (t : Tables) (change : RecChange) → (changed t change).stopped ≡ t.stopped
+pub stopped_by : (t : Tables) (change : RecChange) → (changed t change).stopped ≡ t.stopped
 stopped_by t (changes.Settings m) = refl
 stopped_by t (changes.Marks m) = refl
 stopped_by t (changes.Node m) = refl
@@ -145,23 +150,15 @@ stopped_by t (changes.Remove (keys.Segment id)) = refl
 stopped_by t (changes.Remove (keys.Plan kind)) = refl
 stopped_by t (changes.Remove (keys.Containment node)) = refl
 
-stopped_stays : (cs : List RecChange) (t : Tables) → (all_changed t cs).stopped ≡ t.stopped
+pub stopped_stays : (cs : List RecChange) (t : Tables) → (all_changed t cs).stopped ≡ t.stopped
 stopped_stays [] t = refl
 stopped_stays (change ∷ cs) t = stopped_stays cs (changed t change) ∙ stopped_by t change
-
--- where the machine isn't stopped, a step is its case, swept
-runs : (t : Tables) (call : Call) → t.stopped ≡ false → step t call ≡ swept t (case_of t call)
-runs t call running = go t.stopped running
-  where
-    go : (b : Bool) → b ≡ false → (if b then refused refusals.Stopped else swept t (case_of t call)) ≡ swept t (case_of t call)
-    go true is = cc
-    go false is = refl
 
 -- a kept row of the case is remembered
 remember : (t : Tables) (r : Request) (done : Done) (call : Call) → t.stopped ≡ false → is_stopping (case_of t call).reply ≡ false
     → IsSomeAnd (kept_after t (case_of t call) r.caller) (Keeps r done) → (is_customers r.asked ≡ true → is_none (customer_at t.customers r.caller) ≡ false) → Remembers (after t call) r done
 remember t r done call running goes keeps known =
-    let e = runs t call running in
+    let e = step-running t call running in
     let same = releases_are t (case_of t call).changes in
     let going : is_stopping (step t call).reply ≡ false = ap (λ (o : Outcome). is_stopping o.reply) e ∙ goes in
     let still : (all_changed t (step t call).changes).stopped ≡ false = stopped_stays (step t call).changes t ∙ running in
@@ -183,7 +180,7 @@ remember t r done call running goes keeps known =
 remembered : (t : Tables) (r : Request) (done : Done) (call : Call) → request_of call ≡ Some r → (step t call).reply ≡ replies.Done done → Remembers (after t call) r done
 remembered t r done call e h =
     let running : t.stopped ≡ false = goes t.stopped refl h in
-    let said : (case_of t call).reply ≡ replies.Done done = ap (λ (o : Outcome). o.reply) (sym (runs t call running)) ∙ h in
+    let said : (case_of t call).reply ≡ replies.Done done = ap (λ (o : Outcome). o.reply) (sym (step-running t call running)) ∙ h in
     remember t r done call running (ap is_stopping said) (kept_first t r done call e said) (known_first t r done call e said)
   where
     goes : (b : Bool) → b ≡ t.stopped → (if b then refused refusals.Stopped else swept t (case_of t call)).reply ≡ replies.Done done → b ≡ false
@@ -193,7 +190,7 @@ remembered t r done call e h =
 -- through a quiet step
 stays : (t : Tables) (r : Request) (done : Done) (call : Call) → Remembers t r done → IsQuietCall r t call → Remembers (after t call) r done
 stays t r done call m quiet =
-    let e = runs t call m.running in
+    let e = step-running t call m.running in
     let kept = kept_stays t r m.kept call m.is_kept m.number (subst (λ (o : Outcome). IfSome (request_of call) (λ q. q.caller ≡ r.caller → (q.number ≡ r.number → ⊥) → is_done o.reply ≡ false)) e quiet.no_other) in
     remember t r done call m.running (ap (λ (o : Outcome). is_stopping o.reply) (sym e) ∙ quiet.goes_on)
     (subst (λ o. IsSomeAnd o (Keeps r done)) (sym kept) (m.number, m.same, m.answer)) m.known

@@ -7,6 +7,7 @@ use Rattle.settlement.specs.Place.{place}
 use Rattle.settlement.specs.Rows.{row_of}
 use Rattle.machine_calls.specs.declared.call.Call.{Call}
 use Rattle.machine_calls.specs.declared.call.Call.TheVariants as calls
+use Rattle.machine_calls.specs.declared.wish.Wish.TheVariants as wishes
 use Rattle.machine_calls.specs.declared.reply.Reply.{Reply}
 use Rattle.machine_calls.specs.declared.reply.Reply.TheVariants as replies
 use Rattle.machine_step.specs.Tables.{Tables}
@@ -19,7 +20,7 @@ AreOfBytes h = (i : ℕ) (said : Said) → slice_get h i ≡ Some said → HasBy
 
 -- where a call settled an order anew: of which node it came, its bytes, and the amount
 abbrev pub IfSettled : Call → Reply → (NodeId → List ℕ → ℕ → Type 0) → Type 0
-IfSettled (calls.Settle now node bytes) (replies.Settled amount) P = P node bytes amount
+IfSettled (calls.Asked now words (wishes.Settle node bytes)) (replies.Settled amount) P = P node bytes amount
 IfSettled _ _ P = Unit {0}
 
 -- the bytes are a good order of the node, over the amount, which is within the limit

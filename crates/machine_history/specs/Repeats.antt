@@ -4,6 +4,7 @@ use Rattle.sat_base.specs.declared.requests.Asked.{Asked}
 use Rattle.sat_base.specs.declared.requests.Asked.TheVariants as asks
 use Rattle.machine_calls.specs.declared.call.Call.{Call}
 use Rattle.machine_calls.specs.declared.call.Call.TheVariants as calls
+use Rattle.machine_calls.specs.declared.wish.Wish.TheVariants as wishes
 use Rattle.machine_calls.specs.declared.reply.Reply.{Reply}
 use Rattle.machine_calls.specs.declared.reply.Reply.TheVariants as replies
 use Rattle.machine_step.specs.Tables.{Tables}
@@ -20,12 +21,12 @@ request caller number asked = Some (record { caller = caller; number = number; a
 
 -- the numbered request that a call is
 abbrev pub request_of : Call → Option Request
-request_of (calls.AddNode now number addr port free) = request 0 number (asks.Node addr port free)
-request_of (calls.AddCustomer now number) = request 0 number asks.Customer
-request_of (calls.Begin now customer number len words) = request customer.0 number (asks.Begin len)
-request_of (calls.Commit now customer number segment indexes) = request customer.0 number (asks.Commit segment indexes)
-request_of (calls.Get now customer number segment) = request customer.0 number (asks.Get segment)
-request_of (calls.Delete now customer number segment) = request customer.0 number (asks.Delete segment)
+request_of (calls.Asked now words (wishes.AddNode number addr port free)) = request 0 number (asks.Node addr port free)
+request_of (calls.Asked now words (wishes.AddCustomer number)) = request 0 number asks.Customer
+request_of (calls.Asked now words (wishes.Begin customer number len)) = request customer.0 number (asks.Begin len)
+request_of (calls.Asked now words (wishes.Commit customer number segment indexes)) = request customer.0 number (asks.Commit segment indexes)
+request_of (calls.Asked now words (wishes.Get customer number segment)) = request customer.0 number (asks.Get segment)
+request_of (calls.Asked now words (wishes.Delete customer number segment)) = request customer.0 number (asks.Delete segment)
 request_of _ = None
 
 -- whether a numbered request is accepted, now or at an earlier time

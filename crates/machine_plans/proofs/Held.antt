@@ -7,6 +7,7 @@ use Rattle.audit_core.specs.declared.verdict.Judged.{Judged}
 use Rattle.repair_core.specs.declared.outcome.RepairOutcome.{RepairOutcome}
 use Rattle.repair_core.specs.declared.plan.RepairPlan.{RepairPlan}
 use Rattle.machine_calls.specs.declared.call.Call.TheVariants as calls
+use Rattle.machine_calls.specs.declared.task.Task.TheVariants as tasks
 use Rattle.machine_calls.specs.declared.refusal.Refusal.TheVariants as refusals
 use Rattle.machine_step.specs.Tables.{Tables, segment_at}
 use Rattle.machine_step.specs.Outcome.{Outcome, unless, if_found}
@@ -29,22 +30,22 @@ holds {P} same equal opened plan number otherwise h = go (is_open same opened pl
     go true is h = open-is same equal opened plan is
     go false is h = cc
 
-pub audit_holds : (t : Tables) (now : ℕ) (judged : Judged) → is_accepted (step t (calls.EndAudit now judged)).reply ≡ true → t.audit ≡ Some judged.plan
+pub audit_holds : (t : Tables) (now : ℕ) (judged : Judged) → is_accepted (step t (calls.Own now (tasks.EndAudit judged))).reply ≡ true → t.audit ≡ Some judged.plan
 audit_holds t now judged h =
     holds same_audit same-audit t.audit judged.plan (open_number (λ plan. plan.plan) t.audit) (end_audit_of t (risen t now) judged (version_of (segment_at t.segments judged.plan.segment.0)))
-    (running t (calls.EndAudit now judged) is_accepted refl h).1
+    (running t (calls.Own now (tasks.EndAudit judged)) is_accepted refl h).1
 
-pub recheck_holds : (t : Tables) (now : ℕ) (plan : RecheckPlan) (checked : Checked) → is_accepted (step t (calls.EndRecheck now plan checked)).reply ≡ true → t.recheck ≡ Some plan
+pub recheck_holds : (t : Tables) (now : ℕ) (plan : RecheckPlan) (checked : Checked) → is_accepted (step t (calls.Own now (tasks.EndRecheck plan checked))).reply ≡ true → t.recheck ≡ Some plan
 recheck_holds t now plan checked h =
     holds same_recheck same-recheck t.recheck plan (open_number (λ held. held.plan) t.recheck) (if_found (still_owed t plan) (recheck_void t (risen t now)) (recheck_ended t (risen t now) checked))
-    (running t (calls.EndRecheck now plan checked) is_accepted refl h).1
+    (running t (calls.Own now (tasks.EndRecheck plan checked)) is_accepted refl h).1
 
 mending_holds : (t : Tables) (time kind : ℕ) (opened : Option RepairPlan) (outcome : RepairOutcome) → is_accepted (end_mending t time kind opened outcome).reply ≡ true → opened ≡ Some (plan_of outcome)
 mending_holds t time kind opened outcome h =
     holds same_repair same-repair opened (plan_of outcome) (open_number (λ plan. plan.plan) opened) (end_mending_at t time kind outcome (segment_at t.segments (plan_of outcome).segment.0)) h
 
-pub repair_holds : (t : Tables) (now : ℕ) (outcome : RepairOutcome) → is_accepted (step t (calls.EndRepair now outcome)).reply ≡ true → t.repair ≡ Some (plan_of outcome)
-repair_holds t now outcome h = mending_holds t (risen t now) 11 t.repair outcome (running t (calls.EndRepair now outcome) is_accepted refl h).1
+pub repair_holds : (t : Tables) (now : ℕ) (outcome : RepairOutcome) → is_accepted (step t (calls.Own now (tasks.EndRepair outcome))).reply ≡ true → t.repair ≡ Some (plan_of outcome)
+repair_holds t now outcome h = mending_holds t (risen t now) 11 t.repair outcome (running t (calls.Own now (tasks.EndRepair outcome)) is_accepted refl h).1
 
-pub exit_holds : (t : Tables) (now : ℕ) (outcome : RepairOutcome) → is_accepted (step t (calls.EndExit now outcome)).reply ≡ true → open_move t ≡ Some (plan_of outcome)
-exit_holds t now outcome h = mending_holds t (risen t now) 14 (open_move t) outcome (running t (calls.EndExit now outcome) is_accepted refl h).1
+pub exit_holds : (t : Tables) (now : ℕ) (outcome : RepairOutcome) → is_accepted (step t (calls.Own now (tasks.EndExit outcome))).reply ≡ true → open_move t ≡ Some (plan_of outcome)
+exit_holds t now outcome h = mending_holds t (risen t now) 14 (open_move t) outcome (running t (calls.Own now (tasks.EndExit outcome)) is_accepted refl h).1

@@ -14,6 +14,7 @@ use Rattle.repair_core.specs.declared.outcome.RepairOutcome.{RepairOutcome}
 use Rattle.repair_core.specs.declared.outcome.RepairOutcome.TheVariants as repairs
 use Rattle.machine_calls.specs.declared.call.Call.{Call}
 use Rattle.machine_calls.specs.declared.call.Call.TheVariants as calls
+use Rattle.machine_calls.specs.declared.task.Task.TheVariants as tasks
 use Rattle.machine_calls.specs.declared.change.RecChange.TheVariants as changes
 use Rattle.machine_calls.specs.declared.refusal.Refusal.TheVariants as refusals
 use Rattle.machine_step.specs.Tables.{Tables, all_changed}
@@ -55,11 +56,11 @@ leaves_mending t time kind opened outcome = go (mending_ends t time kind opened 
     go (ended holds found there version is) = at _ is (leaves_found t time kind outcome found)
 
 leaves_case : (t : Tables) (call : Call) → is_end call ≡ true → Leaves t (case_of t call)
-leaves_case t (calls.EndRepair now outcome) ends = leaves_mending t (risen t now) kinds.REPAIR_PLAN t.repair outcome
-leaves_case t (calls.EndExit now outcome) ends = leaves_mending t (risen t now) kinds.EXIT_PLAN (open_move t) outcome
-leaves_case t (calls.EndAudit now judged) ends = λ none. segments-frame (kinds_of (calls.EndAudit now judged)) (case_of t (calls.EndAudit now judged)).changes t (touched t (calls.EndAudit now judged)) refl
-leaves_case t (calls.EndRecheck now plan checked) ends =
-    λ none. segments-frame (kinds_of (calls.EndRecheck now plan checked)) (case_of t (calls.EndRecheck now plan checked)).changes t (touched t (calls.EndRecheck now plan checked)) refl
+leaves_case t (calls.Own now (tasks.EndRepair outcome)) ends = leaves_mending t (risen t now) kinds.REPAIR_PLAN t.repair outcome
+leaves_case t (calls.Own now (tasks.EndExit outcome)) ends = leaves_mending t (risen t now) kinds.EXIT_PLAN (open_move t) outcome
+leaves_case t (calls.Own now (tasks.EndAudit judged)) ends = λ none. segments-frame (kinds_of (calls.Own now (tasks.EndAudit judged))) (case_of t (calls.Own now (tasks.EndAudit judged))).changes t (touched t (calls.Own now (tasks.EndAudit judged))) refl
+leaves_case t (calls.Own now (tasks.EndRecheck plan checked)) ends =
+    λ none. segments-frame (kinds_of (calls.Own now (tasks.EndRecheck plan checked))) (case_of t (calls.Own now (tasks.EndRecheck plan checked))).changes t (touched t (calls.Own now (tasks.EndRecheck plan checked))) refl
 leaves_case t _ ends = absurd cc
 
 pub leaves_pieces : (t : Tables) (call : Call) → is_end call ≡ true → is_repair_ended (step t call).reply ≡ false → (after t call).segments ≡ t.segments
@@ -89,5 +90,5 @@ counts_case t time plan checked h = held (is_open same_recheck t.recheck plan) h
     held true h = owed (contained_at t.containments plan.node) refl h
     held false h = absurd cc
 
-pub recheck_counts : (t : Tables) (now : ℕ) (plan : RecheckPlan) (checked : Checked) → is_recheck_ended (step t (calls.EndRecheck now plan checked)).reply ≡ true → Counts t plan
-recheck_counts t now plan checked h = counts_case t (risen t now) plan checked (running t (calls.EndRecheck now plan checked) is_recheck_ended refl h).1
+pub recheck_counts : (t : Tables) (now : ℕ) (plan : RecheckPlan) (checked : Checked) → is_recheck_ended (step t (calls.Own now (tasks.EndRecheck plan checked))).reply ≡ true → Counts t plan
+recheck_counts t now plan checked h = counts_case t (risen t now) plan checked (running t (calls.Own now (tasks.EndRecheck plan checked)) is_recheck_ended refl h).1

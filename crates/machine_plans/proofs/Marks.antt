@@ -24,6 +24,7 @@ use Rattle.repair_core.specs.declared.outcome.RepairOutcome.{RepairOutcome}
 use Rattle.repair_core.specs.declared.outcome.RepairOutcome.TheVariants as repairs
 use Rattle.machine_calls.specs.declared.call.Call.{Call}
 use Rattle.machine_calls.specs.declared.call.Call.TheVariants as calls
+use Rattle.machine_calls.specs.declared.task.Task.TheVariants as tasks
 use Rattle.machine_calls.specs.declared.change.RecChange.{RecChange}
 use Rattle.machine_calls.specs.declared.change.RecChange.TheVariants as changes
 use Rattle.machine_calls.specs.declared.refusal.Refusal.TheVariants as refusals
@@ -72,13 +73,13 @@ module _ (t : Tables) (v : IsValid t) (id : NodeId) where
 
   -- ---- audits
 
-  marks_audit : (now : ℕ) (judged : Judged) → IsExact t id (marks_in id (calls.EndAudit now judged) (end_audit t (risen t now) judged).reply) (end_audit t (risen t now) judged)
+  marks_audit : (now : ℕ) (judged : Judged) → IsExact t id (marks_in id (calls.Own now (tasks.EndAudit judged)) (end_audit t (risen t now) judged).reply) (end_audit t (risen t now) judged)
   marks_audit now judged = go (audit_ends t (risen t now) judged)
     where
-      at : (o : Outcome) → end_audit t (risen t now) judged ≡ o → IsExact t id (marks_in id (calls.EndAudit now judged) o.reply) o → IsExact t id (marks_in id (calls.EndAudit now judged) (end_audit t (risen t now) judged).reply) (end_audit t (risen t now) judged)
-      at o is exact = subst (λ (x : Outcome). IsExact t id (marks_in id (calls.EndAudit now judged) x.reply) x) (sym is) exact
+      at : (o : Outcome) → end_audit t (risen t now) judged ≡ o → IsExact t id (marks_in id (calls.Own now (tasks.EndAudit judged)) o.reply) o → IsExact t id (marks_in id (calls.Own now (tasks.EndAudit judged)) (end_audit t (risen t now) judged).reply) (end_audit t (risen t now) judged)
+      at o is exact = subst (λ (x : Outcome). IsExact t id (marks_in id (calls.Own now (tasks.EndAudit judged)) x.reply) x) (sym is) exact
 
-      go : AuditEnds t (risen t now) judged → IsExact t id (marks_in id (calls.EndAudit now judged) (end_audit t (risen t now) judged).reply) (end_audit t (risen t now) judged)
+      go : AuditEnds t (risen t now) judged → IsExact t id (marks_in id (calls.Own now (tasks.EndAudit judged)) (end_audit t (risen t now) judged).reply) (end_audit t (risen t now) judged)
       go (audit_not_open is) = at _ is (sym (unrated (node_at t.nodes id)))
       go (audit_superseded held other is) = at _ is (sym (unrated (node_at t.nodes id)))
       go (audit_done held version is) =
@@ -109,7 +110,7 @@ module _ (t : Tables) (v : IsValid t) (id : NodeId) where
       own false = refl
 
   abbrev RecheckExact : ℕ → RecheckPlan → Checked → Outcome → Type 0
-  RecheckExact now plan checked o = IsExact t id (marks_in id (calls.EndRecheck now plan checked) o.reply) o
+  RecheckExact now plan checked o = IsExact t id (marks_in id (calls.Own now (tasks.EndRecheck plan checked)) o.reply) o
 
   module _ (now : ℕ) (plan : RecheckPlan) (c : Containment) (own : c.node.0 ≡ plan.node.0) where
     same_test : (ms : List Mark) → rated (if c.node.0 == id.0 then ms else []) (node_at t.nodes id) ≡ rated (if plan.node.0 == id.0 then ms else []) (node_at t.nodes id)
@@ -125,7 +126,7 @@ module _ (t : Tables) (v : IsValid t) (id : NodeId) where
         none false = sym (unrated (node_at t.nodes id))
 
         silent : (b : Bool) → (c.tries + 1 == 3) ≡ b
-            → IsExact t id (marks_in id (calls.EndRecheck now plan checks.Silent) (replies.RecheckEnded checks.Silent (c.tries + 1))) (recheck_closed t (risen t now) (if c.tries + 1 == 3 then settled_as t c Fail else changes.Containment (record c { tries = c.tries + 1 }) ∷ []) checks.Silent (c.tries + 1))
+            → IsExact t id (marks_in id (calls.Own now (tasks.EndRecheck plan checks.Silent)) (replies.RecheckEnded checks.Silent (c.tries + 1))) (recheck_closed t (risen t now) (if c.tries + 1 == 3 then settled_as t c Fail else changes.Containment (record c { tries = c.tries + 1 }) ∷ []) checks.Silent (c.tries + 1))
         silent true is =
             ap (λ (b : Bool). node_at (all_changed t (recheck_closed t (risen t now) (if b then settled_as t c Fail else changes.Containment (record c { tries = c.tries + 1 }) ∷ []) checks.Silent (c.tries + 1)).changes).nodes id) is
             ∙ settled_marks (risen t now) c Fail ∙ same_test (Fail ∷ [])
@@ -193,18 +194,18 @@ module _ (t : Tables) (v : IsValid t) (id : NodeId) where
         go (ended holds found there version is) = at _ is (marks_found found outcome (other-apart t.nodes (plan_of outcome).sources ((mendable holds).can found there version).sources.apart))
 
   marks_case : (call : Call) → is_end call ≡ true → IsExact t id (marks_in id call (case_of t call).reply) (case_of t call)
-  marks_case (calls.EndAudit now judged) ends = marks_audit now judged
-  marks_case (calls.EndRecheck now plan checked) ends = marks_recheck now plan checked
-  marks_case (calls.EndRepair now outcome) ends = marks_mending (risen t now) kinds.REPAIR_PLAN t.repair outcome (mendable_repair t v (plan_of outcome))
-  marks_case (calls.EndExit now outcome) ends = marks_mending (risen t now) kinds.EXIT_PLAN (open_move t) outcome (mendable_move t v (plan_of outcome))
+  marks_case (calls.Own now (tasks.EndAudit judged)) ends = marks_audit now judged
+  marks_case (calls.Own now (tasks.EndRecheck plan checked)) ends = marks_recheck now plan checked
+  marks_case (calls.Own now (tasks.EndRepair outcome)) ends = marks_mending (risen t now) kinds.REPAIR_PLAN t.repair outcome (mendable_repair t v (plan_of outcome))
+  marks_case (calls.Own now (tasks.EndExit outcome)) ends = marks_mending (risen t now) kinds.EXIT_PLAN (open_move t) outcome (mendable_move t v (plan_of outcome))
   marks_case _ ends = absurd cc
 
 -- a stopped machine gives no outcome
 stopped_none : (id : NodeId) (call : Call) → marks_in id call (replies.Refused refusals.Stopped) ≡ []
-stopped_none id (calls.EndRepair now (repairs.Mended mended)) = refl
-stopped_none id (calls.EndRepair now (repairs.Unmended unmended)) = refl
-stopped_none id (calls.EndExit now (repairs.Mended mended)) = refl
-stopped_none id (calls.EndExit now (repairs.Unmended unmended)) = refl
+stopped_none id (calls.Own now (tasks.EndRepair (repairs.Mended mended))) = refl
+stopped_none id (calls.Own now (tasks.EndRepair (repairs.Unmended unmended))) = refl
+stopped_none id (calls.Own now (tasks.EndExit (repairs.Mended mended))) = refl
+stopped_none id (calls.Own now (tasks.EndExit (repairs.Unmended unmended))) = refl
 stopped_none id _ = refl
 
 pub marks_step : (t : Tables) (call : Call) (id : NodeId) → IsValid t → is_end call ≡ true → node_at (after t call).nodes id ≡ rated (marks_in id call (step t call).reply) (node_at t.nodes id)

@@ -2,7 +2,6 @@
 use Rattle.std.proofs.Common.{◌≡◌, ◌⊎◌, inl, inr, ℕ, suc, ◌+◌, ◌-◌, ◌/◌, ◌<◌, ◌≤◌, ◌^◌, Bool, true, false, not, List, [], ◌∷◌, length, Option, Some, None, min, refl, sym, ap, subst, ◌∙◌, arith}
 use Rattle.std.specs.Prelude.{if◌then◌else◌, ◌==◌, ◌||◌, map, filter, find, slice_get, slice_index, take, drop}
 use Rattle.std.specs.Option.{option_map}
-use Rattle.std.specs.List.{list_all}
 use Rattle.std.proofs.lemmas.Bool.Decides.{nat_tests}
 use Rattle.sat_base.specs.declared.kinds.TheConstants as kinds
 use Rattle.sat_base.specs.declared.records.At.{At}
@@ -17,10 +16,11 @@ use Rattle.placement.proofs.Picks.{got-kept}
 use Rattle.repair_core.specs.declared.plan.RepairPlan.{RepairPlan}
 use Rattle.repair_core.specs.declared.plan.ExitPlan.{ExitPlan}
 use Rattle.repair_core.specs.declared.outcome.Mended.{Mended}
-use Rattle.repair_core.specs.declared.outcome.RepairOutcome.{RepairOutcome}
 use Rattle.repair_core.specs.declared.outcome.RepairOutcome.TheVariants as repairs
 use Rattle.machine_calls.specs.declared.call.Call.{Call}
 use Rattle.machine_calls.specs.declared.call.Call.TheVariants as calls
+use Rattle.machine_calls.specs.declared.task.Task.TheVariants as tasks
+use Rattle.machine_calls.specs.declared.wish.Wish.TheVariants as wishes
 use Rattle.machine_calls.specs.declared.change.RecChange.TheVariants as changes
 use Rattle.machine_calls.specs.declared.reply.Reply.{Reply}
 use Rattle.machine_calls.specs.declared.reply.Reply.TheVariants as replies
@@ -31,19 +31,19 @@ use Rattle.machine_step.specs.Tables.{Tables, segment_at, all_changed}
 use Rattle.machine_step.specs.Outcome.{Outcome, unless, with_record, if_found}
 use Rattle.machine_step.specs.Places.{picks_of}
 use Rattle.machine_step.specs.Containment.{has_piece}
-use Rattle.machine_step.specs.Health.{are_among, healthy_of, healthy_count, picked, first_of}
+use Rattle.machine_step.specs.Health.{healthy_of, healthy_count, picked, first_of}
 use Rattle.machine_step.specs.Plans.{timed, has_no_plan}
-use Rattle.machine_step.specs.Mending.{is_kept, kept_sources, placed_targets, mended_segment, failed, repair_ended, mending_of, end_mending}
+use Rattle.machine_step.specs.Mending.{is_kept, kept_sources, placed_targets, mended_segment, failed, repair_ended, end_mending}
 use Rattle.machine_step.specs.Step.{IsSchemeOf, IsWellFormed, risen, case_of, step, after}
 use Rattle.machine_step.specs.Calls.PlanRepair.{needs_repair, to_repair, terms_beside, targets_for, repair_of, repair_planned, repair_from, plan_repair}
 use Rattle.machine_step.specs.Calls.EndExit.{move_of, open_move}
 use Rattle.machine_step.specs.Calls.PlanExit.{exiting_nodes, lies_on, is_movable, node_exited, target_at, exit_to, exit_from, exit_segment, plan_exit_of, plan_exit}
 use Rattle.machine_step.specs.Bounds.{IsValid}
-use Rattle.machine_step.proofs.RowLemmas.{row_at-with_row, found_rank, rising-got, all-weaker}
+use Rattle.machine_step.proofs.RowLemmas.{row_at-with_row, found_rank, rising-got}
 use Rattle.machine_step.proofs.IndexLemmas.{rising-some}
 use Rattle.machine_step.proofs.Drawn.{among-self}
 use Rattle.machine_step.proofs.Touches.{segments-frame, of-nodes}
-use Rattle.machine_step.proofs.MendFits.{CanMend, enough_mended}
+use Rattle.machine_step.proofs.MendFits.{enough_mended}
 use Rattle.machine_step.proofs.MendFound.{IsMendable, mendable_repair, mendable_move, MendingEnds, mending_ends}
 use Rattle.machine_step.proofs.MendFound.MendingEnds.{not_open, gone_end, superseded_end, ended}
 use Rattle.machine_step.proofs.Calls.PlanRepair.{least-got}
@@ -57,6 +57,7 @@ use Rattle.machine_plans.proofs.Openings.{opens_repair, opens_exit}
 use Rattle.machine_plans.proofs.Held.{repair_holds, exit_holds}
 use Rattle.machine_plans.proofs.Places.{right_at, valid_at, next_at, get_take, legal_until, IsPlannedOn, same_at}
 use Rattle.machine_plans.proofs.PutLemmas.{put-all, kept-all, all-put}
+use Rattle.month_pay.proofs.ListFacts.{all-weaker}
 
 -- ---- what an end makes
 
@@ -178,16 +179,18 @@ exit_found t v time words plan h = go (picked (exiting_nodes t) (slice_index wor
     go (Some node) h = moves node (first_of (filter (is_movable t node.id) t.segments)) refl h
 
 repair_any : (t : Tables) (v : IsValid t) (call : Call) (plan : RepairPlan) → opened_repair (case_of t call).reply ≡ Some plan → On t plan
-repair_any t v (calls.PlanRepair now words) plan h = repair_found t v (risen t now) words plan h
+repair_any t v (calls.Own now (tasks.PlanRepair words)) plan h = repair_found t v (risen t now) words plan h
+repair_any t v (calls.Asked now words wishes.Stop) plan h = absurd (let none : ⊥ = grind (arith, nat_tests, h) in none)
 repair_any t v call plan h = absurd (let none : ⊥ = grind (arith, nat_tests, h) in none)
 
 move_any : (t : Tables) (v : IsValid t) (call : Call) (plan : RepairPlan) → opened_move (case_of t call).reply ≡ Some plan → On t plan
-move_any t v (calls.PlanExit now words) plan h = exit_found t v (risen t now) words plan h
+move_any t v (calls.Own now (tasks.PlanExit words)) plan h = exit_found t v (risen t now) words plan h
+move_any t v (calls.Asked now words wishes.Stop) plan h = absurd (let none : ⊥ = grind (arith, nat_tests, h) in none)
 move_any t v call plan h = absurd (let none : ⊥ = grind (arith, nat_tests, h) in none)
 
 -- ---- from the one to the other
 
-ended_none : (reply : Reply) → is_repair_ended reply ≡ true → is_lost reply ≡ false
+pub ended_none : (reply : Reply) → is_repair_ended reply ≡ true → is_lost reply ≡ false
 ended_none (replies.StoreFault before after) is = cc
 ended_none replies.NoMemory is = cc
 ended_none _ is = refl
@@ -257,7 +260,7 @@ module _ (opened : Reply → Option RepairPlan) (end : Mended → ℕ → Call) 
         | inr w ↦ inr (was_repaired t h j said now mended v legal at is ends w)
       ]
 
-accepts : (reply : Reply) → is_repair_ended reply ≡ true → is_accepted reply ≡ true
+pub accepts : (reply : Reply) → is_repair_ended reply ≡ true → is_accepted reply ≡ true
 accepts (replies.RepairEnded version) is = refl
 accepts _ is = cc
 

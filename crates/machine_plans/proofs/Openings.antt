@@ -23,6 +23,8 @@ use Rattle.repair_core.specs.declared.outcome.RepairOutcome.{RepairOutcome}
 use Rattle.repair_core.specs.declared.outcome.RepairOutcome.TheVariants as repairs
 use Rattle.machine_calls.specs.declared.call.Call.{Call}
 use Rattle.machine_calls.specs.declared.call.Call.TheVariants as calls
+use Rattle.machine_calls.specs.declared.task.Task.TheVariants as tasks
+use Rattle.machine_calls.specs.declared.wish.Wish.TheVariants as wishes
 use Rattle.machine_calls.specs.declared.change.RecChange.{RecChange}
 use Rattle.machine_calls.specs.declared.change.RecChange.TheVariants as changes
 use Rattle.machine_calls.specs.declared.reply.Reply.{Reply}
@@ -85,8 +87,9 @@ module _ (t : Tables) (plan : AuditPlan) where
           (of-append own (map changes.Node nodes) (map changes.Containment rows) (of-nodes own nodes refl) (of-containments own rows refl)) refl
 
 pub opens_audit : (t : Tables) (call : Call) (plan : AuditPlan) → From (λ x. x.audit) opened_audit t plan (case_of t call)
-opens_audit t (calls.PlanAudit now words) plan = from_plan_audit t plan (risen t now) words
-opens_audit t (calls.EndAudit now judged) plan = from_end_audit t plan (risen t now) judged
+opens_audit t (calls.Own now (tasks.PlanAudit words)) plan = from_plan_audit t plan (risen t now) words
+opens_audit t (calls.Own now (tasks.EndAudit judged)) plan = from_end_audit t plan (risen t now) judged
+opens_audit t (calls.Asked now words wishes.Stop) plan = λ h. inl (sym (audit-frame (kinds_of (calls.Asked now words wishes.Stop)) (case_of t (calls.Asked now words wishes.Stop)).changes t (touched t (calls.Asked now words wishes.Stop)) refl) ∙ h)
 opens_audit t call plan = λ h. inl (sym (audit-frame (kinds_of call) (case_of t call).changes t (touched t call) refl) ∙ h)
 
 -- ---- rechecks
@@ -121,8 +124,9 @@ module _ (t : Tables) (plan : RecheckPlan) where
       if_found-P FromRecheck (λ answer h. inl h) (still_owed t held) (recheck_void t time) (recheck_ended t time checked) (λ h. cc) (λ c there. from_recheck_ended time checked c))
 
 pub opens_recheck : (t : Tables) (call : Call) (plan : RecheckPlan) → From (λ x. x.recheck) opened_recheck t plan (case_of t call)
-opens_recheck t (calls.PlanRecheck now) plan = from_plan_recheck t plan (risen t now)
-opens_recheck t (calls.EndRecheck now held checked) plan = from_end_recheck t plan (risen t now) held checked
+opens_recheck t (calls.Own now tasks.PlanRecheck) plan = from_plan_recheck t plan (risen t now)
+opens_recheck t (calls.Own now (tasks.EndRecheck held checked)) plan = from_end_recheck t plan (risen t now) held checked
+opens_recheck t (calls.Asked now words wishes.Stop) plan = λ h. inl (sym (recheck-frame (kinds_of (calls.Asked now words wishes.Stop)) (case_of t (calls.Asked now words wishes.Stop)).changes t (touched t (calls.Asked now words wishes.Stop)) refl) ∙ h)
 opens_recheck t call plan = λ h. inl (sym (recheck-frame (kinds_of call) (case_of t call).changes t (touched t call) refl) ∙ h)
 
 -- ---- repairs and moves
@@ -163,8 +167,9 @@ from_plan_repair t plan time words =
     unless-P P (λ answer h. inl h) (need == 0) (refusals.Few 0) (repair_planned t time (repair_of t time segment (healthy_of t segment) (targets_for t (healthy_of t segment) segment.len words need))) (λ some h. inr h)))
 
 pub opens_repair : (t : Tables) (call : Call) (plan : RepairPlan) → From (λ x. x.repair) opened_repair t plan (case_of t call)
-opens_repair t (calls.PlanRepair now words) plan = from_plan_repair t plan (risen t now) words
-opens_repair t (calls.EndRepair now outcome) plan = from_end_mending t plan (λ x. x.repair) opened_repair kinds.REPAIR_PLAN (λ time. refl) (λ cs x of. repair-frame (3 ∷ 5 ∷ []) cs x of refl) (risen t now) t.repair outcome
+opens_repair t (calls.Own now (tasks.PlanRepair words)) plan = from_plan_repair t plan (risen t now) words
+opens_repair t (calls.Own now (tasks.EndRepair outcome)) plan = from_end_mending t plan (λ x. x.repair) opened_repair kinds.REPAIR_PLAN (λ time. refl) (λ cs x of. repair-frame (3 ∷ 5 ∷ []) cs x of refl) (risen t now) t.repair outcome
+opens_repair t (calls.Asked now words wishes.Stop) plan = λ h. inl (sym (repair-frame (kinds_of (calls.Asked now words wishes.Stop)) (case_of t (calls.Asked now words wishes.Stop)).changes t (touched t (calls.Asked now words wishes.Stop)) refl) ∙ h)
 opens_repair t call plan = λ h. inl (sym (repair-frame (kinds_of call) (case_of t call).changes t (touched t call) refl) ∙ h)
 
 from_plan_exit : (t : Tables) (plan : ExitPlan) (time : ℕ) (words : List ℕ) → From (λ x. x.exit) opened_exit t plan (plan_exit t time words)
@@ -180,6 +185,7 @@ from_plan_exit t plan time words =
     (λ pick. exit_planned t time (record { leaving = leaving; plan = repair_of t time found (healthy_of t found) (target_at leaving pick ∷ []) }) (target_at leaving pick)) (λ pick picked_is h. inr h)))))
 
 pub opens_exit : (t : Tables) (call : Call) (plan : ExitPlan) → From (λ x. x.exit) opened_exit t plan (case_of t call)
-opens_exit t (calls.PlanExit now words) plan = from_plan_exit t plan (risen t now) words
-opens_exit t (calls.EndExit now outcome) plan = from_end_mending t plan (λ x. x.exit) opened_exit kinds.EXIT_PLAN (λ time. refl) (λ cs x of. exit-frame (3 ∷ 5 ∷ []) cs x of refl) (risen t now) (open_move t) outcome
+opens_exit t (calls.Own now (tasks.PlanExit words)) plan = from_plan_exit t plan (risen t now) words
+opens_exit t (calls.Own now (tasks.EndExit outcome)) plan = from_end_mending t plan (λ x. x.exit) opened_exit kinds.EXIT_PLAN (λ time. refl) (λ cs x of. exit-frame (3 ∷ 5 ∷ []) cs x of refl) (risen t now) (open_move t) outcome
+opens_exit t (calls.Asked now words wishes.Stop) plan = λ h. inl (sym (exit-frame (kinds_of (calls.Asked now words wishes.Stop)) (case_of t (calls.Asked now words wishes.Stop)).changes t (touched t (calls.Asked now words wishes.Stop)) refl) ∙ h)
 opens_exit t call plan = λ h. inl (sym (exit-frame (kinds_of call) (case_of t call).changes t (touched t call) refl) ∙ h)

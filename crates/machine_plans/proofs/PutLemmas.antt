@@ -3,15 +3,16 @@ use Rattle.std.proofs.Common.{◌≡◌, ℕ, Bool, true, false, List, [], ◌�
 use Rattle.std.specs.Prelude.{◌==◌, ◌||◌, fold}
 use Rattle.std.specs.List.{list_all}
 use Rattle.std.proofs.lemmas.Bool.Decides.{nat_tests}
+use Rattle.std.proofs.lemmas.Bool.{and_parts, and_from}
 use Rattle.sat_base.specs.declared.records.At.{At}
 use Rattle.rows.specs.Rows.{AllAbove, IsRising}
-use Rattle.rows.specs.Slots.{with_row}
 use Rattle.segment_core.specs.Places.{index_of}
 use Rattle.machine_step.specs.Containment.{has_piece}
 use Rattle.machine_step.specs.Health.{are_among}
 use Rattle.machine_step.specs.Mending.{with_piece}
 use Rattle.machine_step.specs.Calls.PlanRepair.{has_index}
-use Rattle.machine_step.proofs.RowLemmas.{all-with_row, all-weaker, both, and_of}
+use Rattle.machine_step.proofs.RowLemmas.{all-with_row}
+use Rattle.month_pay.proofs.ListFacts.{all-weaker}
 
 has-put : (pieces : List At) (piece : At) → has_piece (with_piece pieces piece) piece ≡ true
 has-put [] piece = grind (arith, nat_tests)
@@ -41,7 +42,7 @@ put-all (target ∷ rest) pieces rising =
     let here = still-after rest (with_piece pieces target) target (has-put pieces target) in
     let none = above-index rest target.index rising.0 in
     let first : has_piece (fold with_piece (with_piece pieces target) rest) target ≡ true = grind (arith, nat_tests, here, none) in
-    and_of _ _ first (put-all rest (with_piece pieces target) rising.1)
+    and_from _ _ first (put-all rest (with_piece pieces target) rising.1)
 
 pub kept-all : (targets pieces some : List At) → are_among pieces some ≡ true → list_all (λ place. has_piece (fold with_piece pieces targets) place || has_index targets place.index) some ≡ true
 kept-all targets pieces some among = all-weaker (λ place. has_piece pieces place) (λ place. has_piece (fold with_piece pieces targets) place || has_index targets place.index) (λ place has. still-after targets pieces place has) some among
@@ -49,5 +50,5 @@ kept-all targets pieces some among = all-weaker (λ place. has_piece pieces plac
 pub all-put : (good : At → Bool) (targets pieces : List At) → list_all good pieces ≡ true → list_all good targets ≡ true → list_all good (fold with_piece pieces targets) ≡ true
 all-put good [] pieces all more = all
 all-put good (target ∷ rest) pieces all more =
-    let parts = both (good target) (list_all good rest) more in
+    let parts = and_parts (good target) (list_all good rest) more in
     all-put good rest (with_piece pieces target) (all-with_row index_of good pieces target all parts.0) parts.1

@@ -1,6 +1,6 @@
 -- Where an end is superseded, and what leaves the segments.
-use Rattle.std.proofs.Common.{◌≡◌, ◌⊎◌, inl, inr, ℕ, ◌≤◌, Bool, true, false, not, List, [], ◌∷◌, ◌++◌, Option, Some, None, refl, sym, ap, ◌∙◌, arith}
-use Rattle.std.specs.Prelude.{◌≢◌, ◌↔◌, if◌then◌else◌, ◌==◌, map}
+use Rattle.std.proofs.Common.{◌≡◌, ℕ, true, false, Option, Some, None, refl, sym, ap, ◌∙◌, arith}
+use Rattle.std.specs.Prelude.{◌≢◌, ◌==◌}
 use Rattle.std.proofs.lemmas.Bool.Decides.{nat_tests}
 use Rattle.sat_base.specs.declared.kinds.TheConstants as kinds
 use Rattle.segment_core.specs.Record.{SegmentRecord}
@@ -8,8 +8,8 @@ use Rattle.audit_core.specs.declared.verdict.Judged.{Judged}
 use Rattle.repair_core.specs.declared.plan.RepairPlan.{RepairPlan}
 use Rattle.repair_core.specs.declared.outcome.RepairOutcome.{RepairOutcome}
 use Rattle.repair_core.specs.declared.outcome.RepairOutcome.TheVariants as repairs
-use Rattle.machine_calls.specs.declared.call.Call.{Call}
 use Rattle.machine_calls.specs.declared.call.Call.TheVariants as calls
+use Rattle.machine_calls.specs.declared.task.Task.TheVariants as tasks
 use Rattle.machine_calls.specs.declared.reply.Reply.{Reply}
 use Rattle.machine_calls.specs.declared.reply.Reply.TheVariants as replies
 use Rattle.machine_calls.specs.declared.refusal.Refusal.TheVariants as refusals
@@ -17,7 +17,7 @@ use Rattle.machine_step.specs.Tables.{Tables, segment_at}
 use Rattle.machine_step.specs.Outcome.{Outcome}
 use Rattle.machine_step.specs.Plans.{version_of}
 use Rattle.machine_step.specs.Mending.{plan_of, mending_of, end_mending}
-use Rattle.machine_step.specs.Step.{risen, case_of, step}
+use Rattle.machine_step.specs.Step.{risen, step}
 use Rattle.machine_step.specs.Calls.EndAudit.{end_audit}
 use Rattle.machine_step.specs.Calls.EndExit.{open_move}
 use Rattle.machine_step.specs.Bounds.{IsValid}
@@ -27,12 +27,8 @@ use Rattle.machine_step.proofs.MendFound.{IsMendable, mendable_repair, mendable_
 use Rattle.machine_step.proofs.MendFound.MendingEnds.{not_open, gone_end, superseded_end, ended}
 use Rattle.machine_plans.specs.Opened.{is_accepted}
 use Rattle.machine_plans.specs.Ends.{IsSupersededBy}
-use Rattle.machine_plans.proofs.Steps.{running, reply_of}
-use Rattle.machine_plans.proofs.Held.{repair_holds, exit_holds}
-
--- the reply of a step of a running machine
-step_reply : (t : Tables) (call : Call) → t.stopped ≡ false → (step t call).reply ≡ (case_of t call).reply
-step_reply t call runs = reply_of t call ∙ ap (λ (b : Bool). if b then replies.Refused refusals.Stopped else (case_of t call).reply) runs
+use Rattle.machine_plans.proofs.Steps.{running}
+use Rattle.machine_step.proofs.StepLemmas.{reply_of_case}
 
 differ : (a b : ℕ) → (a == b) ≡ false → a ≢ b
 differ a b test same = grind (arith, nat_tests, test, same)
@@ -45,17 +41,17 @@ not_so : (t : Tables) (segment planned : ℕ) (reply : Reply) → ((p n : ℕ) �
 not_so t segment planned reply none same =
     (λ h. absurd (none planned (version_of (segment_at t.segments segment)) h), λ h. absurd (let equal : version_of (segment_at t.segments segment) ≡ planned = grind (arith, nat_tests, same) in h equal))
 
-pub superseded_audit : (t : Tables) (now : ℕ) (judged : Judged) → IsValid t → is_accepted (step t (calls.EndAudit now judged)).reply ≡ true
-    → IsSupersededBy t judged.plan.segment.0 judged.plan.version (step t (calls.EndAudit now judged)).reply
+pub superseded_audit : (t : Tables) (now : ℕ) (judged : Judged) → IsValid t → is_accepted (step t (calls.Own now (tasks.EndAudit judged))).reply ≡ true
+    → IsSupersededBy t judged.plan.segment.0 judged.plan.version (step t (calls.Own now (tasks.EndAudit judged))).reply
 superseded_audit t now judged v h =
-    let r = running t (calls.EndAudit now judged) is_accepted refl h in
-    go (step_reply t (calls.EndAudit now judged) r.0) r.1 (audit_ends t (risen t now) judged)
+    let r = running t (calls.Own now (tasks.EndAudit judged)) is_accepted refl h in
+    go (reply_of_case t (calls.Own now (tasks.EndAudit judged)) r.0) r.1 (audit_ends t (risen t now) judged)
   where
     reply : Reply
-    reply = (step t (calls.EndAudit now judged)).reply
+    reply = (step t (calls.Own now (tasks.EndAudit judged))).reply
 
-    go : (step t (calls.EndAudit now judged)).reply ≡ (end_audit t (risen t now) judged).reply → is_accepted (end_audit t (risen t now) judged).reply ≡ true → AuditEnds t (risen t now) judged
-        → IsSupersededBy t judged.plan.segment.0 judged.plan.version (step t (calls.EndAudit now judged)).reply
+    go : (step t (calls.Own now (tasks.EndAudit judged))).reply ≡ (end_audit t (risen t now) judged).reply → is_accepted (end_audit t (risen t now) judged).reply ≡ true → AuditEnds t (risen t now) judged
+        → IsSupersededBy t judged.plan.segment.0 judged.plan.version (step t (calls.Own now (tasks.EndAudit judged))).reply
     go same taken (audit_not_open is) = absurd (let bad : true ≡ false = sym taken ∙ ap (λ (x : Outcome). is_accepted x.reply) is in cc)
     go same taken (audit_superseded held other is) = is_so t judged.plan.segment.0 judged.plan.version reply (same ∙ ap (λ (x : Outcome). x.reply) is) other
     go same taken (audit_done held version is) =
@@ -90,14 +86,14 @@ module _ (t : Tables) (time kind : ℕ) (opened : Option RepairPlan) (outcome : 
           not_so t (plan_of outcome).segment.0 (plan_of outcome).version reply (λ p n e. not_mended found p n (sym (same ∙ ap (λ (x : Outcome). x.reply) is) ∙ e))
           (ap (λ (o : Option SegmentRecord). version_of o == (plan_of outcome).version) at ∙ version)
 
-pub superseded_repair : (t : Tables) (now : ℕ) (outcome : RepairOutcome) → IsValid t → is_accepted (step t (calls.EndRepair now outcome)).reply ≡ true
-    → IsSupersededBy t (plan_of outcome).segment.0 (plan_of outcome).version (step t (calls.EndRepair now outcome)).reply
+pub superseded_repair : (t : Tables) (now : ℕ) (outcome : RepairOutcome) → IsValid t → is_accepted (step t (calls.Own now (tasks.EndRepair outcome))).reply ≡ true
+    → IsSupersededBy t (plan_of outcome).segment.0 (plan_of outcome).version (step t (calls.Own now (tasks.EndRepair outcome))).reply
 superseded_repair t now outcome v h =
-    let r = running t (calls.EndRepair now outcome) is_accepted refl h in
-    superseded_mending t (risen t now) kinds.REPAIR_PLAN t.repair outcome (mendable_repair t v (plan_of outcome)) (step t (calls.EndRepair now outcome)).reply (step_reply t (calls.EndRepair now outcome) r.0) r.1
+    let r = running t (calls.Own now (tasks.EndRepair outcome)) is_accepted refl h in
+    superseded_mending t (risen t now) kinds.REPAIR_PLAN t.repair outcome (mendable_repair t v (plan_of outcome)) (step t (calls.Own now (tasks.EndRepair outcome))).reply (reply_of_case t (calls.Own now (tasks.EndRepair outcome)) r.0) r.1
 
-pub superseded_move : (t : Tables) (now : ℕ) (outcome : RepairOutcome) → IsValid t → is_accepted (step t (calls.EndExit now outcome)).reply ≡ true
-    → IsSupersededBy t (plan_of outcome).segment.0 (plan_of outcome).version (step t (calls.EndExit now outcome)).reply
+pub superseded_move : (t : Tables) (now : ℕ) (outcome : RepairOutcome) → IsValid t → is_accepted (step t (calls.Own now (tasks.EndExit outcome))).reply ≡ true
+    → IsSupersededBy t (plan_of outcome).segment.0 (plan_of outcome).version (step t (calls.Own now (tasks.EndExit outcome))).reply
 superseded_move t now outcome v h =
-    let r = running t (calls.EndExit now outcome) is_accepted refl h in
-    superseded_mending t (risen t now) kinds.EXIT_PLAN (open_move t) outcome (mendable_move t v (plan_of outcome)) (step t (calls.EndExit now outcome)).reply (step_reply t (calls.EndExit now outcome) r.0) r.1
+    let r = running t (calls.Own now (tasks.EndExit outcome)) is_accepted refl h in
+    superseded_mending t (risen t now) kinds.EXIT_PLAN (open_move t) outcome (mendable_move t v (plan_of outcome)) (step t (calls.Own now (tasks.EndExit outcome))).reply (reply_of_case t (calls.Own now (tasks.EndExit outcome)) r.0) r.1

@@ -6,6 +6,7 @@ use Rattle.segment_core.specs.Record.{SegmentRecord}
 use Rattle.placement.specs.Eligible.{subnet_count}
 use Rattle.repair_core.specs.declared.plan.RepairPlan.{RepairPlan}
 use Rattle.machine_calls.specs.declared.call.Call.TheVariants as calls
+use Rattle.machine_calls.specs.declared.task.Task.TheVariants as tasks
 use Rattle.machine_calls.specs.declared.refusal.Refusal.TheVariants as refusals
 use Rattle.machine_calls.specs.declared.refusal.TableName.TheVariants as names
 use Rattle.machine_step.specs.Tables.{Tables}
@@ -39,5 +40,5 @@ wanted_case t v time words plan h = go (to_repair t) h
         let need = min (t.setup.o - length (healthy_of t segment)) (subnet_count (terms_beside t (healthy_of t segment) segment.len words)) in
         counted segment need refl (has_no_plan t.marks) (need == 0) refl h
 
-pub wanted_targets : (t : Tables) (now : ℕ) (words : List ℕ) (plan : RepairPlan) → IsValid t → opened_repair (step t (calls.PlanRepair now words)).reply ≡ Some plan → HasItsTargets t words plan
-wanted_targets t now words plan v h = wanted_case t v (risen t now) words plan (opened_in t (calls.PlanRepair now words) opened_repair plan refl h)
+pub wanted_targets : (t : Tables) (now : ℕ) (words : List ℕ) (plan : RepairPlan) → IsValid t → opened_repair (step t (calls.Own now (tasks.PlanRepair words))).reply ≡ Some plan → HasItsTargets t words plan
+wanted_targets t now words plan v h = wanted_case t v (risen t now) words plan (opened_in t (calls.Own now (tasks.PlanRepair words)) opened_repair plan refl h)

@@ -8,6 +8,7 @@ use Rattle.repair_core.specs.declared.outcome.Mended.{Mended}
 use Rattle.repair_core.specs.declared.outcome.RepairOutcome.TheVariants as repairs
 use Rattle.machine_calls.specs.declared.call.Call.{Call}
 use Rattle.machine_calls.specs.declared.call.Call.TheVariants as calls
+use Rattle.machine_calls.specs.declared.task.Task.TheVariants as tasks
 use Rattle.machine_calls.specs.declared.reply.Reply.{Reply}
 use Rattle.machine_calls.specs.declared.reply.Reply.TheVariants as replies
 use Rattle.machine_step.specs.Tables.{Tables, segment_at}
@@ -22,10 +23,10 @@ use Rattle.machine_plans.specs.Opened.{opened_audit, opened_repair, at_place}
 
 -- the calls that end a plan
 abbrev pub is_end : Call → Bool
-is_end (calls.EndAudit now judged) = true
-is_end (calls.EndRecheck now plan checked) = true
-is_end (calls.EndRepair now outcome) = true
-is_end (calls.EndExit now outcome) = true
+is_end (calls.Own now (tasks.EndAudit judged)) = true
+is_end (calls.Own now (tasks.EndRecheck plan checked)) = true
+is_end (calls.Own now (tasks.EndRepair outcome)) = true
+is_end (calls.Own now (tasks.EndExit outcome)) = true
 is_end _ = false
 
 abbrev pub is_audit_ended : Reply → Bool
@@ -106,10 +107,10 @@ abbrev pub EndsAs : (ℕ → Call) → Call → Type 0
 EndsAs end call = (now : ℕ) × (call ≡ end now)
 
 abbrev pub repair_end : Mended → ℕ → Call
-repair_end mended now = calls.EndRepair now (repairs.Mended mended)
+repair_end mended now = calls.Own now (tasks.EndRepair (repairs.Mended mended))
 
 abbrev pub move_end : Mended → ℕ → Call
-move_end mended now = calls.EndExit now (repairs.Mended mended)
+move_end mended now = calls.Own now (tasks.EndExit (repairs.Mended mended))
 
 -- the repair that ends at place j was planned at an earlier place, its segment was the same there, and is mended behind the end
 pub record WasRepaired (opened : Reply → Option RepairPlan) (t : Tables) (h : List Said) (j : ℕ) (mended : Mended) : Type 0 where

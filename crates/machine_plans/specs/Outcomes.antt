@@ -13,6 +13,7 @@ use Rattle.repair_core.specs.declared.outcome.RepairOutcome.{RepairOutcome}
 use Rattle.repair_core.specs.declared.outcome.RepairOutcome.TheVariants as repairs
 use Rattle.machine_calls.specs.declared.call.Call.{Call}
 use Rattle.machine_calls.specs.declared.call.Call.TheVariants as calls
+use Rattle.machine_calls.specs.declared.task.Task.TheVariants as tasks
 use Rattle.machine_calls.specs.declared.reply.Reply.{Reply}
 use Rattle.machine_calls.specs.declared.reply.Reply.TheVariants as replies
 use Rattle.machine_calls.specs.Replies.{is_lost}
@@ -44,10 +45,10 @@ mended_marks id _ _ = []
 
 -- the outcomes that a call brings a node, by its answer. Of an audit: what it says of each asked piece that is on the node
 abbrev pub marks_in : NodeId → Call → Reply → List Mark
-marks_in id (calls.EndAudit now judged) (replies.AuditEnded clear blamed missing contained answered) = filter_map (λ piece. mark_of judged piece.index) (filter (lies_on id) judged.plan.asked)
-marks_in id (calls.EndRecheck now plan checked) (replies.RecheckEnded again tries) = if plan.node.0 == id.0 then checked_marks checked tries else []
-marks_in id (calls.EndRepair now outcome) reply = mended_marks id outcome reply
-marks_in id (calls.EndExit now outcome) reply = mended_marks id outcome reply
+marks_in id (calls.Own now (tasks.EndAudit judged)) (replies.AuditEnded clear blamed missing contained answered) = filter_map (λ piece. mark_of judged piece.index) (filter (lies_on id) judged.plan.asked)
+marks_in id (calls.Own now (tasks.EndRecheck plan checked)) (replies.RecheckEnded again tries) = if plan.node.0 == id.0 then checked_marks checked tries else []
+marks_in id (calls.Own now (tasks.EndRepair outcome)) reply = mended_marks id outcome reply
+marks_in id (calls.Own now (tasks.EndExit outcome)) reply = mended_marks id outcome reply
 marks_in id _ _ = []
 
 -- ---- by a history

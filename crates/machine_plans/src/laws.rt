@@ -13,6 +13,7 @@ ghost use Rattle.repair_core.specs.declared.plan.RepairPlan.{RepairPlan};
 ghost use Rattle.repair_core.specs.declared.plan.ExitPlan.{ExitPlan};
 ghost use Rattle.repair_core.specs.declared.outcome.RepairOutcome.{RepairOutcome};
 ghost use Rattle.machine_calls.specs.declared.call.Call.TheVariants as calls;
+ghost use Rattle.machine_calls.specs.declared.task.Task.TheVariants as tasks;
 ghost use Rattle.machine_step.specs.Tables.{Tables};
 ghost use Rattle.machine_step.specs.Bounds.{IsValid};
 ghost use Rattle.machine_step.specs.Step.{step, after};
@@ -27,13 +28,13 @@ ghost use Rattle.repair_core.specs.declared.outcome.Mended.{Mended};
 /// The plan that an accepted end holds is the open one of its kind.
 pub fn an_end_holds_the_open_plan()
     ensures audit { (t : Tables) (now : ℕ) (judged : Judged)
-        → is_accepted (step t (calls.EndAudit now judged)).reply ≡ true → t.audit ≡ Some judged.plan }
+        → is_accepted (step t (calls.Own now (tasks.EndAudit judged))).reply ≡ true → t.audit ≡ Some judged.plan }
     ensures recheck { (t : Tables) (now : ℕ) (plan : RecheckPlan) (checked : Checked)
-        → is_accepted (step t (calls.EndRecheck now plan checked)).reply ≡ true → t.recheck ≡ Some plan }
+        → is_accepted (step t (calls.Own now (tasks.EndRecheck plan checked))).reply ≡ true → t.recheck ≡ Some plan }
     ensures repair { (t : Tables) (now : ℕ) (outcome : RepairOutcome)
-        → is_accepted (step t (calls.EndRepair now outcome)).reply ≡ true → t.repair ≡ Some (plan_of outcome) }
+        → is_accepted (step t (calls.Own now (tasks.EndRepair outcome))).reply ≡ true → t.repair ≡ Some (plan_of outcome) }
     ensures exit { (t : Tables) (now : ℕ) (outcome : RepairOutcome)
-        → is_accepted (step t (calls.EndExit now outcome)).reply ≡ true → open_move t ≡ Some (plan_of outcome) }
+        → is_accepted (step t (calls.Own now (tasks.EndExit outcome))).reply ≡ true → open_move t ≡ Some (plan_of outcome) }
 {}
 
 /// A plan that is open behind a history was open at its beginning, or an answer of the history opened it.
@@ -52,7 +53,7 @@ pub fn an_open_plan_was_opened()
 /// own: also where the plan was left open by an earlier term.
 pub fn an_ended_audit_asks_its_pieces()
     ensures { (t : Tables) (now : ℕ) (judged : Judged) → IsValid t
-        → is_audit_ended (step t (calls.EndAudit now judged)).reply ≡ true → AsksItsPieces t judged }
+        → is_audit_ended (step t (calls.Own now (tasks.EndAudit judged))).reply ≡ true → AsksItsPieces t judged }
 {}
 
 /// Where an audit ends and isn't superseded, its segment is the one that was there when it was planned: the same pieces,
@@ -60,7 +61,7 @@ pub fn an_ended_audit_asks_its_pieces()
 pub fn an_audit_ends_on_its_pieces()
     ensures { (t : Tables) (h : List Said) (i j : ℕ) (planned said : Said) (now : ℕ) (judged : Judged)
         → IsValid t → IsLegal t h → i < j → slice_get h i ≡ Some planned → slice_get h j ≡ Some said
-        → opened_audit planned.reply ≡ Some judged.plan → said.call ≡ calls.EndAudit now judged
+        → opened_audit planned.reply ≡ Some judged.plan → said.call ≡ calls.Own now (tasks.EndAudit judged)
         → is_audit_ended said.reply ≡ true
         → IsAudited (at_place t h i) (at_place t h j) judged }
 {}
@@ -69,7 +70,7 @@ pub fn an_audit_ends_on_its_pieces()
 /// an earlier place, at which its segment was the same.
 pub fn each_ended_audit_kept_its_pieces()
     ensures { (t : Tables) (h : List Said) (j : ℕ) (said : Said) (now : ℕ) (judged : Judged)
-        → IsValid t → IsLegal t h → slice_get h j ≡ Some said → said.call ≡ calls.EndAudit now judged
+        → IsValid t → IsLegal t h → slice_get h j ≡ Some said → said.call ≡ calls.Own now (tasks.EndAudit judged)
         → is_audit_ended said.reply ≡ true
         → (t.audit ≡ Some judged.plan) ⊎ WasAudited t h j judged }
 {}
@@ -78,14 +79,14 @@ pub fn each_ended_audit_kept_its_pieces()
 /// shows both; a segment that is gone has version 0.
 pub fn an_end_is_superseded_by_the_version()
     ensures audit { (t : Tables) (now : ℕ) (judged : Judged) → IsValid t
-        → is_accepted (step t (calls.EndAudit now judged)).reply ≡ true
-        → IsSupersededBy t judged.plan.segment.0 judged.plan.version (step t (calls.EndAudit now judged)).reply }
+        → is_accepted (step t (calls.Own now (tasks.EndAudit judged))).reply ≡ true
+        → IsSupersededBy t judged.plan.segment.0 judged.plan.version (step t (calls.Own now (tasks.EndAudit judged))).reply }
     ensures repair { (t : Tables) (now : ℕ) (outcome : RepairOutcome) → IsValid t
-        → is_accepted (step t (calls.EndRepair now outcome)).reply ≡ true
-        → IsSupersededBy t (plan_of outcome).segment.0 (plan_of outcome).version (step t (calls.EndRepair now outcome)).reply }
+        → is_accepted (step t (calls.Own now (tasks.EndRepair outcome))).reply ≡ true
+        → IsSupersededBy t (plan_of outcome).segment.0 (plan_of outcome).version (step t (calls.Own now (tasks.EndRepair outcome))).reply }
     ensures exit { (t : Tables) (now : ℕ) (outcome : RepairOutcome) → IsValid t
-        → is_accepted (step t (calls.EndExit now outcome)).reply ≡ true
-        → IsSupersededBy t (plan_of outcome).segment.0 (plan_of outcome).version (step t (calls.EndExit now outcome)).reply }
+        → is_accepted (step t (calls.Own now (tasks.EndExit outcome))).reply ≡ true
+        → IsSupersededBy t (plan_of outcome).segment.0 (plan_of outcome).version (step t (calls.Own now (tasks.EndExit outcome))).reply }
 {}
 
 /// Where a repair or a move ends and mended its segment, the segment is the one that was there when it was planned, and
@@ -134,7 +135,7 @@ pub fn only_a_mended_end_changes_pieces()
 /// Asking a silent node again counts only where its containment still stands as planned.
 pub fn a_recheck_counts_as_planned()
     ensures { (t : Tables) (now : ℕ) (plan : RecheckPlan) (checked : Checked)
-        → is_recheck_ended (step t (calls.EndRecheck now plan checked)).reply ≡ true
+        → is_recheck_ended (step t (calls.Own now (tasks.EndRecheck plan checked))).reply ≡ true
         → IsSomeAnd (contained_at t.containments plan.node) (λ c. is_as_planned plan c ≡ true) }
 {}
 
@@ -142,5 +143,5 @@ pub fn a_recheck_counts_as_planned()
 /// least one.
 pub fn a_planned_repair_has_its_targets()
     ensures { (t : Tables) (now : ℕ) (words : List ℕ) (plan : RepairPlan) → IsValid t
-        → opened_repair (step t (calls.PlanRepair now words)).reply ≡ Some plan → HasItsTargets t words plan }
+        → opened_repair (step t (calls.Own now (tasks.PlanRepair words))).reply ≡ Some plan → HasItsTargets t words plan }
 {}

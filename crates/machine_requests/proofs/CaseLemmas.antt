@@ -1,8 +1,8 @@
 -- What the cases of calls need of valid tables, and how their ends meet their definitions.
-use Rattle.std.proofs.Common.{◌≡◌, ◌≢◌, ◌↔◌, ℕ, ◌*◌, ◌/◌, ◌≤◌, ◌^◌, Bool, true, false, not, List, length, Option, Some, None, Result, Ok, Err, refl, sym, ap, subst, ◌∙◌, arith}
+use Rattle.std.proofs.Common.{◌≡◌, ◌≢◌, ◌↔◌, ℕ, ◌≤◌, ◌^◌, Bool, true, false, List, length, Option, Some, None, Result, Ok, Err, refl, sym, ap, subst, ◌∙◌, arith}
 use Rattle.std.specs.Prelude.{nat_lt, find, nat_le}
-use Rattle.std.proofs.Math.Nat.{mul-le-mul_left}
 use Rattle.std.proofs.lemmas.Bool.Decides.{nat_tests}
+use Rattle.std.proofs.lemmas.Bool.{not-true}
 use Rattle.sat_base.specs.declared.records.At.{At}
 use Rattle.sat_base.specs.declared.ids.CustomerId.{CustomerId}
 use Rattle.sat_base.specs.declared.ids.SegId.{SegId}
@@ -14,7 +14,7 @@ use Rattle.segment_core.specs.declared.committing.CommitErr.TheVariants as cause
 use Rattle.machine_calls.specs.declared.asking.Asking.{Asking}
 use Rattle.machine_calls.specs.declared.refusal.Refusal.{Refusal}
 use Rattle.machine_calls.specs.declared.refusal.Refusal.TheVariants as refusals
-use Rattle.machine_step.specs.Tables.{Setup, Tables, is_no_size, segment_at, owned_at}
+use Rattle.machine_step.specs.Tables.{Tables, is_no_size, segment_at, owned_at}
 use Rattle.machine_step.specs.Outcome.{Outcome, unless, refused}
 use Rattle.placement.specs.Eligible.{subnet_count}
 use Rattle.machine_step.specs.Calls.Begin.{terms_for, begun, begin_placed}
@@ -25,23 +25,12 @@ use Rattle.machine_step.proofs.PieceLemmas.{offer-counted}
 use Rattle.machine_step.proofs.Fits.{fine_found, owned_found}
 use Rattle.machine_store.specs.declared.prepared.Prepared.{Prepared}
 use Rattle.machine_store.specs.Prepared.{Holds}
-
--- a size is at most 2^40 bytes
-size-within : (setup : Setup) (len : ℕ) → 1 ≤ setup.share → setup.k ≤ 128 → is_no_size setup len ≡ false → len ≤ 2 ^ 40
-size-within setup len some few size =
-    let piece : setup.share * (4194304 / setup.share) ≤ 4194304 = omega arith in
-    let all : setup.k * (setup.share * (4194304 / setup.share)) ≤ setup.k * 4194304 = mul-le-mul_left setup.k piece in
-    let most : len ≤ 4194304 / setup.share * setup.k * setup.share = grind (arith, nat_tests, size) in
-    omega (arith, all, most, few)
+use Rattle.machine_step.proofs.SegmentSizes.{size-most}
 
 pub len-within : (t : Tables) (len : ℕ) → IsValid t → is_no_size t.setup len ≡ false → len ≤ 2 ^ 40
 len-within t len v size =
     let scheme = v.bounds.setup.scheme in
-    size-within t.setup len scheme.some_bytes (omega (arith, scheme.repairs_in_time, scheme.wants_more, scheme.tries_enough, scheme.few_pieces)) size
-
-not-true : (b : Bool) → not b ≡ true → b ≡ false
-not-true true h = cc
-not-true false h = refl
+    size-most t.setup len scheme.some_bytes (omega (arith, scheme.repairs_in_time, scheme.wants_more, scheme.tries_enough, scheme.few_pieces)) size
 
 pub found-len : (t : Tables) (segment : SegId) (found : SegmentRecord) → IsValid t → segment_at t.segments segment.0 ≡ Some found → found.len ≤ 2 ^ 40
 found-len t segment found v at = len-within t found.len v (not-true _ (fine_found t v segment.0 found at).sized)
@@ -67,7 +56,7 @@ enough-placed t asking len words enough =
 abbrev pub err_of : CommitErr → Result SegmentRecord CommitErr
 err_of e = Err e
 
--- want of memory is no cause
+-- running out of memory is no cause
 no-want : (outside repeated : Option ℕ) (have need : ℕ) → first_cause outside repeated have need ≡ Some causes.NoMemory → ⊥
 no-want (Some index) repeated have need is = cc
 no-want None (Some index) have need is = cc

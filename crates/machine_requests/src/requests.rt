@@ -1,6 +1,6 @@
 // What comes of each request.
-ghost use Rattle.std.specs.Prelude.{◌≡◌, true, IfOk};
-ghost use Rattle.machine_calls.specs.Replies.{is_request};
+ghost use Rattle.std.specs.Prelude.{IfOk};
+ghost use Rattle.machine_calls.specs.declared.call.Call.{Call};
 ghost use Rattle.machine_step.specs.Bounds.{IsValid};
 ghost use Rattle.machine_step.specs.Step.{case_of, IsWellFormed};
 ghost use Rattle.machine_store.specs.Prepared.{Holds};
@@ -18,92 +18,84 @@ use crate::set_free::set_free;
 use crate::set_rates::set_rates;
 use crate::settle::settle;
 use crate::statement::statement;
-use machine_calls::{Call, Reply};
+use machine_calls::{Reply, Wish};
 use machine_store::{Prepared, Store, asking, risen, unchanged};
-use sat_base::{CustomerId, NoMemory};
+use sat_base::{CustomerId, Moment, NoMemory};
 use std::alloc::Global;
 
 // The caller of what the operator asks.
 const OPERATOR: CustomerId = CustomerId(0);
 
-/// The reply and the changes of a request, where the machine isn't stopped. The tables stay as they are. Its error is
-/// want of memory alone.
-pub fn request_case(alloc: Global, store: &Store, call: &Call) -> Result<Prepared, NoMemory>
+/// The reply and the changes of a request at a moment, with its random words, where the machine isn't stopped. The tables stay
+/// as they are. It fails only where memory runs out.
+pub fn request_case(
+    alloc: Global,
+    store: &Store,
+    now: Moment,
+    words: &[u64],
+    wish: &Wish,
+) -> Result<Prepared, NoMemory>
     requires valid { IsValid (tables_of store.now) }
     requires own { GoesByTables store.now }
-    requires formed { IsWellFormed (tables_of store.now) call.now }
-    requires asked { is_request call.now ≡ true }
-    ensures { IfOk result (λ p. Holds p (case_of (tables_of store.now) call.now)) }
+    requires formed { IsWellFormed (tables_of store.now) (Call.Asked now words.now wish.now) }
+    ensures { IfOk result (λ p. Holds p (case_of (tables_of store.now) (Call.Asked now words.now wish.now))) }
 {
-    match call {
-        Call::AddNode {
-            now,
+    match wish {
+        Wish::AddNode {
             request,
             addr,
             port,
             free,
         } => {
-            let asking = asking(store, OPERATOR, *request, *now);
+            let asking = asking(store, OPERATOR, *request, now);
             add_node(alloc, store, &asking, *addr, *port, *free)
         }
-        Call::AddCustomer { now, request } => {
-            add_customer(alloc, store, &asking(store, OPERATOR, *request, *now))
+        Wish::AddCustomer { request } => {
+            add_customer(alloc, store, &asking(store, OPERATOR, *request, now))
         }
-        Call::Begin {
-            now,
+        Wish::Begin {
             customer,
             request,
             len,
-            words,
         } => {
-            let asking = asking(store, *customer, *request, *now);
-            begin(alloc, store, &asking, *len, words.as_slice())
+            let asking = asking(store, *customer, *request, now);
+            begin(alloc, store, &asking, *len, words)
         }
-        Call::Commit {
-            now,
+        Wish::Commit {
             customer,
             request,
             segment,
             indexes,
         } => {
-            let asking = asking(store, *customer, *request, *now);
+            let asking = asking(store, *customer, *request, now);
             commit(alloc, store, &asking, *segment, indexes)
         }
-        Call::Get {
-            now,
+        Wish::Get {
             customer,
             request,
             segment,
-        } => get(
-            alloc,
-            store,
-            &asking(store, *customer, *request, *now),
-            *segment,
-        ),
-        Call::Delete {
-            now,
+        } => {
+            let asking = asking(store, *customer, *request, now);
+            get(alloc, store, &asking, *segment)
+        }
+        Wish::Delete {
             customer,
             request,
             segment,
-        } => delete(
-            alloc,
-            store,
-            &asking(store, *customer, *request, *now),
-            *segment,
-        ),
-        Call::Settle { now, node, bytes } => {
-            settle(alloc, store, risen(store, *now), *node, bytes.as_slice())
+        } => {
+            let asking = asking(store, *customer, *request, now);
+            delete(alloc, store, &asking, *segment)
         }
-        Call::SetFree { now, node, free } => {
-            set_free(alloc, store, risen(store, *now), *node, *free)
+        Wish::Settle { node, bytes } => {
+            settle(alloc, store, risen(store, now), *node, bytes.as_slice())
         }
-        Call::Statement { node, month } => Ok(statement(alloc, store, *node, *month)),
-        Call::CloseMonth { now, month } => { close_month(alloc, store, risen(store, *now), *month) }
-        Call::SetRates { now, month, rates } => {
-            set_rates(alloc, store, risen(store, *now), *month, *rates)
+        Wish::SetFree { node, free } => set_free(alloc, store, risen(store, now), *node, *free),
+        Wish::Statement { node, month } => Ok(statement(alloc, store, *node, *month)),
+        Wish::CloseMonth { month } => close_month(alloc, store, risen(store, now), *month),
+        Wish::SetRates { month, rates } => {
+            set_rates(alloc, store, risen(store, now), *month, *rates)
         }
-        Call::Exit { now, node } => exit(alloc, store, risen(store, *now), *node),
-        Call::Stop => Ok(unchanged(alloc, Reply::Stopping)),
-        _ => unreachable!(),
+        Wish::Exit { node } => exit(alloc, store, risen(store, now), *node),
+        Wish::Stop => Ok(unchanged(alloc, Reply::Stopping)),
     }
 }

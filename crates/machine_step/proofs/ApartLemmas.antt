@@ -3,6 +3,7 @@ use Rattle.std.proofs.Common.{◌≡◌, ℕ, ◌<◌, Bool, true, false, List, 
 use Rattle.std.specs.Prelude.{nat_lt, ◌==◌, filter}
 use Rattle.std.specs.List.{list_any}
 use Rattle.std.proofs.lemmas.Bool.Decides.{nat_tests}
+use Rattle.std.proofs.lemmas.Bool.{and_parts, and_from}
 use Rattle.sat_base.specs.declared.records.At.{At}
 use Rattle.rows.specs.Rows.{AllAbove, IsRising}
 use Rattle.node_registry.specs.declared.node.Node.{Node}
@@ -13,7 +14,6 @@ use Rattle.machine_step.specs.Health.{are_among}
 use Rattle.machine_step.specs.Places.{addr_of, subnets_of}
 use Rattle.machine_step.specs.Rules.{are_apart, are_below}
 use Rattle.machine_step.specs.Mending.{with_piece}
-use Rattle.machine_step.proofs.RowLemmas.{both, and_of}
 use Rattle.node_registry.specs.Subnet.{subnet_at}
 
 module _ (nodes : List Node) where
@@ -57,7 +57,7 @@ module _ (nodes : List Node) where
   off-among : (pieces : List At) (one : At) (places : List At) → are_apart (subnets_of nodes pieces) ≡ true → has_piece pieces one ≡ true → are_among pieces places ≡ true → AllAbove index_of one.index places → IsOff (subnet one) places
   off-among pieces one [] apart has among above = refl
   off-among pieces one (place ∷ places) apart has among above =
-      let parts = both (has_piece pieces place) (are_among pieces places) among in
+      let parts = and_parts (has_piece pieces place) (are_among pieces places) among in
       let differ = differ-places pieces one place apart has parts.0 above.0 in
       grind (arith, nat_tests, differ, off-among pieces one places apart has parts.1 above.1)
 
@@ -65,7 +65,7 @@ module _ (nodes : List Node) where
   pub apart-among : (pieces places : List At) → are_apart (subnets_of nodes pieces) ≡ true → are_among pieces places ≡ true → IsRising index_of places → are_apart (subnets_of nodes places) ≡ true
   apart-among pieces [] apart among rising = refl
   apart-among pieces (place ∷ places) apart among rising =
-      let parts = both (has_piece pieces place) (are_among pieces places) among in
+      let parts = and_parts (has_piece pieces place) (are_among pieces places) among in
       let off = off-among pieces place places apart parts.0 parts.1 rising.0 in
       grind (arith, nat_tests, off, apart-among pieces places apart parts.1 rising.1)
 
@@ -81,5 +81,5 @@ below-place n (x ∷ xs) place below has = grind (arith, nat_tests, below, has, 
 pub below-among : (n : ℕ) (pieces places : List At) → are_below n pieces ≡ true → are_among pieces places ≡ true → are_below n places ≡ true
 below-among n pieces [] below among = refl
 below-among n pieces (place ∷ places) below among =
-    let parts = both (has_piece pieces place) (are_among pieces places) among in
-    and_of _ _ (below-place n pieces place below parts.0) (below-among n pieces places below parts.1)
+    let parts = and_parts (has_piece pieces place) (are_among pieces places) among in
+    and_from _ _ (below-place n pieces place below parts.0) (below-among n pieces places below parts.1)

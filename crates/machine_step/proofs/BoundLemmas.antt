@@ -3,6 +3,7 @@ use Rattle.std.proofs.Common.{◌≡◌, ℕ, ◌^◌, ◌≤◌, Bool, true, fa
 use Rattle.std.specs.Prelude.{◌==◌, ◌||◌, ◌&&◌, nat_lt, nat_le}
 use Rattle.std.specs.List.{list_all, list_any}
 use Rattle.std.proofs.lemmas.Bool.Decides.{nat_tests}
+use Rattle.std.proofs.lemmas.Bool.{and_parts}
 use Rattle.sat_base.specs.declared.rates.Tariff.{Tariff}
 use Rattle.sat_base.specs.Limits.{IsTariffWithin}
 use Rattle.rows.specs.Rows.{row_at}
@@ -22,16 +23,15 @@ use Rattle.machine_step.specs.Tables.{Tables, ledger_of}
 use Rattle.machine_step.specs.Rules.{is_known, is_sound_tally}
 use Rattle.machine_step.specs.PlanRules.{is_exited, has_exited, is_sound_left}
 use Rattle.machine_step.specs.Bounds.{Each, IsValid}
-use Rattle.machine_step.proofs.RowLemmas.{both}
 use Rattle.machine_step.proofs.Validity.{steady_of}
 use Rattle.machine_step.proofs.HourRows.{nodes_are}
 
 module _ (t : Tables) (v : IsValid t) where
   tally-most : (row : Tally) → is_sound_tally t.marks t.nodes row ≡ true → row.bytes ≤ 2 ^ 44
   tally-most row sound =
-      let parts = both (is_known t.nodes row.node) _ sound in
-      let more = both (nat_lt row.hour.0 t.marks.hour.0) _ parts.1 in
-      let bytes = both (nat_le 1 row.bytes) (nat_le row.bytes (2 ^ 44)) more.1 in
+      let parts = and_parts (is_known t.nodes row.node) _ sound in
+      let more = and_parts (nat_lt row.hour.0 t.marks.hour.0) _ parts.1 in
+      let bytes = and_parts (nat_le 1 row.bytes) (nat_le row.bytes (2 ^ 44)) more.1 in
       let most = bytes.1 in
       grind (arith, nat_tests, most)
 
@@ -60,8 +60,8 @@ module _ (t : Tables) (v : IsValid t) where
   unfolding has_left
   stays-here month node [] at gone all = refl
   stays-here month node (row ∷ rest) at gone all =
-      let parts = both (is_sound_left t.marks t.nodes row) _ all in
-      let exited = (both (has_exited (node_at t.nodes row.node)) (nat_le row.at t.marks.time) parts.0).0 in
+      let parts = and_parts (is_sound_left t.marks t.nodes row) _ all in
+      let exited = (and_parts (has_exited (node_at t.nodes row.node)) (nat_le row.at t.marks.time) parts.0).0 in
       go (row.node.0 == node.id.0) refl exited (stays-here month node rest at gone parts.1)
     where
       go : (b : Bool) → (row.node.0 == node.id.0) ≡ b → has_exited (node_at t.nodes row.node) ≡ true → list_any (λ r. (r.node.0 == node.id.0) && nat_le (month_at r.at) month) rest ≡ false

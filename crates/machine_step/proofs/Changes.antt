@@ -1,5 +1,5 @@
 -- Each change that fits keeps what holds.
-use Rattle.std.proofs.Common.{◌≡◌, ℕ, ◌≤◌, Bool, true, false, List, [], ◌∷◌, Option, Some, None, IfSome, refl, sym, subst, arith}
+use Rattle.std.proofs.Common.{◌≡◌, ℕ, ◌≤◌, Bool, true, false, List, Option, Some, None, IfSome, arith}
 use Rattle.std.specs.Prelude.{if◌then◌else◌, nat_lt, ◌==◌}
 use Rattle.std.proofs.lemmas.Bool.Decides.{nat_tests}
 use Rattle.sat_base.specs.declared.limits.TheConstants as limits
@@ -36,13 +36,14 @@ use Rattle.machine_step.specs.PlanRules.{is_owed, is_exited, is_sound_left, is_a
 use Rattle.machine_step.proofs.GrowthLemmas.{AreLater, marks-later, Extends, extends_self, extends_next, extends_set, customer_more, nodes-later, nodes-next, nodes-set, none_next, customers-later, customers-next, IsFine, fine, Grows, segment-later, settled-later, tally-later, kept-later}
 use Rattle.machine_step.proofs.SegmentLemmas.{SegmentsGrow, segments_self, segments_less}
 use Rattle.machine_step.proofs.PlanLemmas.{owed-later, audit-later, recheck-later, repair-later, exit-later}
-use Rattle.machine_step.proofs.RowLemmas.{row_at-with_row, found_rank, rising-with_row, all-with_row, all-without, each-with_row, all-found, all-weaker}
+use Rattle.machine_step.proofs.RowLemmas.{row_at-with_row, found_rank, rising-with_row, all-with_row, all-without, each-with_row, all-found}
 use Rattle.month_pay.proofs.LastMonth.{month_most}
 use Rattle.machine_step.specs.Bounds.{IsSettledWithin}
 use Rattle.machine_step.proofs.TariffLemmas.{tariff_put}
 use Rattle.machine_step.proofs.Hold.{SegmentsHold, SettledHold, TalliesHold, KeptHold, segments_put, fewer_segments, kept_put, AuditHolds, RecheckHolds, RepairHolds, ExitHolds, ContainmentsHold, LeftHold}
 use Rattle.machine_step.proofs.Steady.{IsSteady, MarksFit, NodeFits, CustomerFits, SegmentFits, SettledFits, TallyFits, TariffFits, KeptFits, ContainmentFits, FitsIn, later_self}
 use Rattle.machine_step.proofs.Steady.NodeFits.{next_node, update}
+use Rattle.month_pay.proofs.ListFacts.{all-weaker}
 
 pub some_map : {X : Type 0} (P Q : X → Type 0) (found : Option X) → ((x : X) → P x → Q x) → IfSome found P → IfSome found Q
 some_map P Q None so h = h

@@ -13,8 +13,7 @@ use Rattle.machine_step.specs.Plans.{drawn, has_no_plan, superseded}
 use Rattle.machine_step.specs.Rules.{is_sound_version}
 use Rattle.machine_step.specs.PlanRules.{is_drawn, is_planned_version}
 use Rattle.machine_step.specs.Bounds.{ArePlacesWithin, IsValid}
-use Rattle.machine_step.proofs.RowLemmas.{all-weaker}
-use Rattle.machine_step.proofs.PieceLemmas.{length-filtered, all-filtered, below-most}
+use Rattle.machine_step.proofs.PieceLemmas.{all-filtered, below-most}
 use Rattle.machine_step.proofs.GrowthLemmas.{segment-most}
 use Rattle.machine_step.proofs.MarkLemmas.{month-open, hour-most}
 use Rattle.machine_step.proofs.Steady.{MarksFit}
@@ -22,6 +21,8 @@ use Rattle.machine_step.proofs.Fits.{After, fitting_apart, fine_found, within_fo
 use Rattle.machine_step.proofs.RowLemmas.{rising-got}
 use Rattle.machine_step.specs.Writable.{IsPlanKind}
 use Rattle.sat_base.specs.declared.limits.TheConstants as limits
+use Rattle.month_pay.proofs.Amounts.{length-filter}
+use Rattle.month_pay.proofs.ListFacts.{all-weaker}
 
 module _ (t : Tables) (v : IsValid t) where
   pub live-found : (word : ℕ) (found : SegmentRecord) → picked (live_segments t) word ≡ Some found → (is_live found ≡ true) × (segment_at t.segments found.id.0 ≡ Some found)
@@ -36,7 +37,7 @@ module _ (t : Tables) (v : IsValid t) where
       let w = within_found t v id found at in
       record {
         by_index = filtered_by_index test found.pieces w.by_index;
-        few = omega (arith, length-filtered test found.pieces, w.few);
+        few = omega (arith, length-filter test found.pieces, w.few);
         below = below-most t.setup.n limits.PLACES (filter test found.pieces) v.bounds.setup.scheme.few_pieces (all-filtered (λ piece. nat_lt piece.index t.setup.n) test found.pieces f.indexed);
       }
 

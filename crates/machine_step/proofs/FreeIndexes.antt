@@ -3,6 +3,7 @@ use Rattle.std.proofs.Common.{◌≡◌, ℕ, zero, suc, ◌+◌, ◌<◌, ◌�
 use Rattle.std.specs.Prelude.{if◌then◌else◌, nat_lt, ◌==◌, map, filter}
 use Rattle.std.specs.List.{list_all, range_with_len}
 use Rattle.std.proofs.lemmas.Bool.Decides.{nat_tests}
+use Rattle.std.proofs.lemmas.Bool.{and_parts, and_from}
 use Rattle.sat_base.specs.declared.ids.NodeId.{NodeId}
 use Rattle.sat_base.specs.declared.records.At.{At}
 use Rattle.rows.specs.Rows.{AllAbove, IsRising}
@@ -14,7 +15,6 @@ use Rattle.placement.specs.Placed.{id_of}
 use Rattle.machine_step.specs.Places.{subnets_of, addr_of}
 use Rattle.machine_step.specs.Calls.PlanRepair.{has_index, paired}
 use Rattle.machine_step.specs.Rules.{is_known, are_known}
-use Rattle.machine_step.proofs.RowLemmas.{both, and_of}
 use Rattle.machine_step.proofs.PickLemmas.{AreFound}
 use Rattle.node_registry.specs.Subnet.{subnet_at}
 
@@ -29,10 +29,6 @@ range-rising i (suc n) = (range-above (i + 1) n i (omega arith), range-rising (i
 pub range-below : (i n most : ℕ) → i + n ≤ most → list_all (λ k. nat_lt k most) (range_with_len i n) ≡ true
 range-below i zero most le = refl
 range-below i (suc n) most le = let rest = range-below (i + 1) n most (omega arith) in grind (arith, nat_tests, le, rest)
-
-pub range-length : (i n : ℕ) → length (range_with_len i n) ≡ n
-range-length i zero = refl
-range-length i (suc n) = ap suc (range-length (i + 1) n)
 
 all-above : (k : ℕ) (xs : List ℕ) → AllAbove (λ (x : ℕ). x) k xs → filter (λ x. not (k == x)) xs ≡ xs
 all-above k [] above = refl
@@ -98,15 +94,15 @@ pub all-paired : (test : ℕ → Bool) (indexes : List ℕ) (ids : List NodeId) 
 all-paired test [] ids all = refl
 all-paired test (i ∷ indexes) [] all = refl
 all-paired test (i ∷ indexes) (id ∷ ids) all =
-    let parts = both (test i) (list_all test indexes) all in
-    and_of _ _ parts.0 (all-paired test indexes ids parts.1)
+    let parts = and_parts (test i) (list_all test indexes) all in
+    and_from _ _ parts.0 (all-paired test indexes ids parts.1)
 
 pub known-paired : (nodes : List Node) (indexes : List ℕ) (picks : List Node) → AreFound nodes picks → are_known nodes (paired indexes (map id_of picks)) ≡ true
 known-paired nodes [] picks found = refl
 known-paired nodes (i ∷ indexes) [] found = refl
 known-paired nodes (i ∷ indexes) (node ∷ picks) found =
     let here : is_known nodes node.id ≡ true = ap is_some found.0 in
-    and_of _ _ here (known-paired nodes indexes picks found.1)
+    and_from _ _ here (known-paired nodes indexes picks found.1)
 
 pub subnets-paired : (nodes : List Node) (indexes : List ℕ) (picks : List Node) → AreFound nodes picks → length picks ≤ length indexes → subnets_of nodes (paired indexes (map id_of picks)) ≡ map subnet_of picks
 subnets-paired nodes [] [] found le = refl

@@ -2,6 +2,7 @@
 use Rattle.std.proofs.Common.{◌≡◌, ℕ, suc, ◌+◌, ◌/◌, ◌<◌, ◌≤◌, ◌^◌, zero, true, not, List, [], ◌∷◌, length, Some, None, is_some, refl, ap, subst, ◌∙◌, arith}
 use Rattle.std.specs.Prelude.{nat_lt, nat_le, slice_get}
 use Rattle.std.proofs.lemmas.Bool.Decides.{nat_tests}
+use Rattle.std.proofs.lemmas.Bool.{and_parts, and_from}
 use Rattle.sat_base.specs.declared.ids.NodeId.{NodeId}
 use Rattle.sat_base.specs.declared.ids.CustomerId.{CustomerId}
 use Rattle.sat_base.specs.declared.records.At.{At}
@@ -28,7 +29,8 @@ use Rattle.machine_step.specs.Tables.{Setup, is_no_size, customer_at}
 use Rattle.machine_step.specs.Places.{addr_of}
 use Rattle.machine_step.specs.Rules.{first_bad, is_known, has_begun, is_next_number, are_sound_marks, is_rated, breaks_node, breaks_customer, are_known, are_apart, are_below, is_sound_version, is_sound_segment, is_sound_settled, is_sound_tally, is_callers, is_sound_asked, is_sound_offer, is_sound_done, is_sound_kept}
 use Rattle.machine_step.specs.Places.{subnets_of}
-use Rattle.machine_step.proofs.RowLemmas.{row_at-with_row, all-weaker, both, and_of}
+use Rattle.machine_step.proofs.RowLemmas.{row_at-with_row}
+use Rattle.month_pay.proofs.ListFacts.{all-weaker}
 
 -- ---- the marks
 
@@ -47,19 +49,19 @@ number-later old new le most sound = grind (arith, nat_tests, sound)
 -- where the next month has begun, and the least hour is at most the next one
 pub marks-later : (setup : Setup) (old new : Marks) → AreLater old new → new.month.0 ≤ month_at new.time → new.hour.0 ≤ new.time / 3600 + 1 → new.segment ≤ 2 ^ 63 → new.serial ≤ 2 ^ 63 → new.plan ≤ 2 ^ 63 → are_sound_marks setup old ≡ true → are_sound_marks setup new ≡ true
 marks-later setup old new later begun hour segment serial plan sound =
-    let first = both (nat_le setup.first_month old.month.0) _ sound in
-    let second = both (has_begun old.month.0 old.time) _ first.1 in
-    let third = both (nat_le old.hour.0 (old.time / 3600 + 1)) _ second.1 in
-    let fourth = both (is_next_number old.segment) _ third.1 in
-    let fifth = both (is_next_number old.serial) (is_next_number old.plan) fourth.1 in
+    let first = and_parts (nat_le setup.first_month old.month.0) _ sound in
+    let second = and_parts (has_begun old.month.0 old.time) _ first.1 in
+    let third = and_parts (nat_le old.hour.0 (old.time / 3600 + 1)) _ second.1 in
+    let fourth = and_parts (is_next_number old.segment) _ third.1 in
+    let fifth = and_parts (is_next_number old.serial) (is_next_number old.plan) fourth.1 in
     let low = first.0 in
     let rises = later.month in
     let now : nat_le new.month.0 (month_at new.time) ≡ true = grind (arith, nat_tests, begun) in
-    and_of _ _ (grind (arith, nat_tests, low, rises))
-    (and_of _ _ (begun_is new.month.0 new.time ∙ now)
-    (and_of _ _ (grind (arith, nat_tests, hour))
-    (and_of _ _ (number-later old.segment new.segment later.segment segment fourth.0)
-    (and_of _ _ (number-later old.serial new.serial later.serial serial fifth.0) (number-later old.plan new.plan later.plan plan fifth.1)))))
+    and_from _ _ (grind (arith, nat_tests, low, rises))
+    (and_from _ _ (begun_is new.month.0 new.time ∙ now)
+    (and_from _ _ (grind (arith, nat_tests, hour))
+    (and_from _ _ (number-later old.segment new.segment later.segment segment fourth.0)
+    (and_from _ _ (number-later old.serial new.serial later.serial serial fifth.0) (number-later old.plan new.plan later.plan plan fifth.1)))))
 
 pub plan-most : (setup : Setup) (marks : Marks) → are_sound_marks setup marks ≡ true → marks.plan ≤ 2 ^ 63
 plan-most setup marks sound = grind (arith, nat_tests, sound)
@@ -168,7 +170,7 @@ known-later old new extends pieces known = all-weaker (λ piece. is_known old pi
 pub subnets-later : (old new : List Node) → Extends old new → (pieces : List At) → are_known old pieces ≡ true → subnets_of new pieces ≡ subnets_of old pieces
 subnets-later old new extends [] known = refl
 subnets-later old new extends (piece ∷ pieces) known =
-    let parts = both _ _ known in
+    let parts = and_parts _ _ known in
     let here : addr_of (node_at new piece.node) / 256 ≡ addr_of (node_at old piece.node) / 256 = ap (λ (addr : ℕ). addr / 256) (extends.same piece.node parts.0) in
     ap (λ (x : ℕ). x ∷ subnets_of new pieces) here ∙ ap (λ (xs : List ℕ). addr_of (node_at old piece.node) / 256 ∷ xs) (subnets-later old new extends pieces parts.1)
 
@@ -184,17 +186,17 @@ pub record IsFine (setup : Setup) (marks : Marks) (nodes : List Node) (customers
 
 pub fine : (setup : Setup) (marks : Marks) (nodes : List Node) (customers : List Customer) (segment : SegmentRecord) → is_sound_segment setup marks nodes customers segment ≡ true → IsFine setup marks nodes customers segment
 fine setup marks nodes customers segment sound =
-    let first = both _ _ sound in
-    let second = both _ _ first.1 in
-    let third = both _ _ second.1 in
-    let fourth = both _ _ third.1 in
-    let fifth = both _ _ fourth.1 in
-    let sixth = both _ _ fifth.1 in
+    let first = and_parts _ _ sound in
+    let second = and_parts _ _ first.1 in
+    let third = and_parts _ _ second.1 in
+    let fourth = and_parts _ _ third.1 in
+    let fifth = and_parts _ _ fourth.1 in
+    let sixth = and_parts _ _ fifth.1 in
     record { below = first.0; owned = second.0; sized = third.0; known = fourth.0; apart = fifth.0; indexed = sixth.0; version = sixth.1 }
 
 pub sound-fine : (setup : Setup) (marks : Marks) (nodes : List Node) (customers : List Customer) (segment : SegmentRecord) → IsFine setup marks nodes customers segment → is_sound_segment setup marks nodes customers segment ≡ true
 sound-fine setup marks nodes customers segment f =
-    and_of _ _ f.below (and_of _ _ f.owned (and_of _ _ f.sized (and_of _ _ f.known (and_of _ _ f.apart (and_of _ _ f.indexed f.version)))))
+    and_from _ _ f.below (and_from _ _ f.owned (and_from _ _ f.sized (and_from _ _ f.known (and_from _ _ f.apart (and_from _ _ f.indexed f.version)))))
 
 -- the marks, nodes and customers before and after
 pub record Grows (old new : Marks) (nodes nodes' : List Node) (customers customers' : List Customer) : Type 0 where
@@ -222,17 +224,17 @@ module _ (setup : Setup) (old new : Marks) (nodes nodes' : List Node) (customers
 
   pub tally-later : (row : Tally) → is_sound_tally old nodes row ≡ true → is_sound_tally new nodes' row ≡ true
   tally-later row sound =
-      let parts = both (is_known nodes row.node) _ sound in
-      let more = both (nat_lt row.hour.0 old.hour.0) _ parts.1 in
+      let parts = and_parts (is_known nodes row.node) _ sound in
+      let more = and_parts (nat_lt row.hour.0 old.hour.0) _ parts.1 in
       let early = more.0 in
       let rises = grows.later.hour in
-      and_of _ _ (grows.extends.known row.node parts.0) (and_of _ _ (grind (arith, nat_tests, early, rises)) more.1)
+      and_from _ _ (grows.extends.known row.node parts.0) (and_from _ _ (grind (arith, nat_tests, early, rises)) more.1)
 
   pub settled-later : (row : SettledRow) → is_sound_settled old nodes row ≡ true → is_sound_settled new nodes' row ≡ true
   settled-later row sound =
-      let parts = both _ _ sound in
+      let parts = and_parts _ _ sound in
       let rises = grows.later.time in
-      and_of _ _ (grows.extends.known row.node parts.0) (grind (arith, nat_tests, parts.1, rises))
+      and_from _ _ (grows.extends.known row.node parts.0) (grind (arith, nat_tests, parts.1, rises))
 
   callers-later : (caller : CustomerId) (asked : Asked) → is_callers customers caller asked ≡ true → is_callers customers' caller asked ≡ true
   callers-later caller (asks.Node addr port free) h = h
@@ -255,17 +257,17 @@ module _ (setup : Setup) (old new : Marks) (nodes nodes' : List Node) (customers
 
   offer-later : (caller : CustomerId) (offer : Offer) → is_sound_offer old nodes caller offer ≡ true → is_sound_offer new nodes' caller offer ≡ true
   offer-later caller offer sound =
-      let first = both _ _ sound in
-      let second = both _ _ first.1 in
-      let third = both _ _ second.1 in
-      let fourth = both _ _ third.1 in
+      let first = and_parts _ _ sound in
+      let second = and_parts _ _ first.1 in
+      let third = and_parts _ _ second.1 in
+      let fourth = and_parts _ _ third.1 in
       let drawn : nat_lt offer.serial.0 old.serial ≡ true = second.0 in
       let issued : nat_le offer.issued old.time ≡ true = fourth.1 in
       let serial = grows.later.serial in
       let time = grows.later.time in
-      and_of _ _ (all-weaker (λ (place : Place). is_known nodes place.node) (λ place. is_known nodes' place.node) (λ place h. grows.extends.known place.node h) offer.places first.0)
-      (and_of _ _ (grind (arith, nat_tests, drawn, serial))
-      (and_of _ _ (numbered-later offer.segment.0 third.0) (and_of _ _ fourth.0 (grind (arith, nat_tests, issued, time)))))
+      and_from _ _ (all-weaker (λ (place : Place). is_known nodes place.node) (λ place. is_known nodes' place.node) (λ place h. grows.extends.known place.node h) offer.places first.0)
+      (and_from _ _ (grind (arith, nat_tests, drawn, serial))
+      (and_from _ _ (numbered-later offer.segment.0 third.0) (and_from _ _ fourth.0 (grind (arith, nat_tests, issued, time)))))
 
   done-later : (caller : CustomerId) (asked : Asked) (done : Done) → is_sound_done old nodes caller asked done ≡ true → is_sound_done new nodes' caller asked done ≡ true
   done-later caller (asks.Node addr port free) (dones.NodeAdded node) h = grows.extends.known node h
@@ -280,7 +282,7 @@ module _ (setup : Setup) (old new : Marks) (nodes nodes' : List Node) (customers
   done-later caller asks.Customer (dones.Deleted gone) h = cc
   done-later caller (asks.Begin len) (dones.NodeAdded node) h = cc
   done-later caller (asks.Begin len) (dones.CustomerAdded customer) h = cc
-  done-later caller (asks.Begin len) (dones.Offer offer) h = let parts = both _ _ h in and_of _ _ parts.0 (offer-later caller offer parts.1)
+  done-later caller (asks.Begin len) (dones.Offer offer) h = let parts = and_parts _ _ h in and_from _ _ parts.0 (offer-later caller offer parts.1)
   done-later caller (asks.Begin len) (dones.Committed live) h = cc
   done-later caller (asks.Begin len) (dones.Deleted gone) h = cc
   done-later caller (asks.Commit segment indexes) (dones.NodeAdded node) h = cc
@@ -290,7 +292,7 @@ module _ (setup : Setup) (old new : Marks) (nodes nodes' : List Node) (customers
   done-later caller (asks.Commit segment indexes) (dones.Deleted gone) h = cc
   done-later caller (asks.Get segment) (dones.NodeAdded node) h = cc
   done-later caller (asks.Get segment) (dones.CustomerAdded customer) h = cc
-  done-later caller (asks.Get segment) (dones.Offer offer) h = let parts = both _ _ h in and_of _ _ parts.0 (offer-later caller offer parts.1)
+  done-later caller (asks.Get segment) (dones.Offer offer) h = let parts = and_parts _ _ h in and_from _ _ parts.0 (offer-later caller offer parts.1)
   done-later caller (asks.Get segment) (dones.Committed live) h = cc
   done-later caller (asks.Get segment) (dones.Deleted gone) h = cc
   done-later caller (asks.Delete segment) (dones.NodeAdded node) h = cc
@@ -301,7 +303,7 @@ module _ (setup : Setup) (old new : Marks) (nodes nodes' : List Node) (customers
 
   pub kept-later : (kept : Kept) → is_sound_kept old nodes customers kept ≡ true → is_sound_kept new nodes' customers' kept ≡ true
   kept-later kept sound =
-      let first = both _ _ sound in
-      let second = both _ _ first.1 in
-      and_of _ _ (callers-later kept.caller kept.asked first.0)
-      (and_of _ _ (asked-later kept.asked second.0) (done-later kept.caller kept.asked kept.done second.1))
+      let first = and_parts _ _ sound in
+      let second = and_parts _ _ first.1 in
+      and_from _ _ (callers-later kept.caller kept.asked first.0)
+      (and_from _ _ (asked-later kept.asked second.0) (done-later kept.caller kept.asked kept.done second.1))

@@ -1,8 +1,9 @@
 -- The rows of an hour that is tallied: their order, and the rule that they keep.
-use Rattle.std.proofs.Common.{◌≡◌, ℕ, ◌+◌, ◌*◌, ◌<◌, ◌≤◌, ◌^◌, Bool, true, false, not, List, [], ◌∷◌, Option, Some, None, is_some, refl, ap, arith}
+use Rattle.std.proofs.Common.{◌≡◌, ℕ, ◌+◌, ◌*◌, ◌<◌, ◌^◌, Bool, true, false, not, List, [], ◌∷◌, Option, Some, None, is_some, refl, ap, arith}
 use Rattle.std.specs.Prelude.{if◌then◌else◌, nat_lt, nat_le, ◌==◌, map, filter}
 use Rattle.std.specs.List.{list_all}
 use Rattle.std.proofs.lemmas.Bool.Decides.{nat_tests}
+use Rattle.std.proofs.lemmas.Bool.{and_parts, and_from}
 use Rattle.sat_base.specs.declared.settings.Marks.{Marks}
 use Rattle.rows.specs.Rows.{AllAbove, IsRising}
 use Rattle.rows.proofs.Found.{rank-found}
@@ -16,7 +17,7 @@ use Rattle.machine_step.specs.Stored.{stored_bytes}
 use Rattle.machine_step.specs.Calls.TallyHour.{tally_of}
 use Rattle.machine_step.specs.Rules.{is_known, is_sound_tally}
 use Rattle.machine_step.specs.Bounds.{Each, IsValid}
-use Rattle.machine_step.proofs.RowLemmas.{each-found, both, and_of}
+use Rattle.machine_step.proofs.RowLemmas.{each-found}
 use Rattle.machine_step.proofs.MarkLemmas.{are_nodes}
 use Rattle.machine_step.proofs.StoredMost.{stored-most}
 
@@ -63,12 +64,12 @@ module _ (t : Tables) (v : IsValid t) where
             let bound = stored-most t v node in
             let most : nat_le (stored_bytes t.setup t.segments node) (2 ^ 44) ≡ true = grind (arith, nat_tests, bound) in
             let early : nat_lt hour marks.hour.0 ≡ true = grind (arith, nat_tests, lt) in
-            and_of _ _ (and_of _ _ (ap is_some each.0) (and_of _ _ early (and_of _ _ some most))) later
+            and_from _ _ (and_from _ _ (ap is_some each.0) (and_from _ _ early (and_from _ _ some most))) later
 
   pub tally-low : (row : Tally) → is_sound_tally t.marks t.nodes row ≡ true → (row.hour.0 < t.marks.hour.0) × (row.node.0 < 2 ^ 32)
   tally-low row sound =
-      let parts = both (is_known t.nodes row.node) _ sound in
-      let more = both (nat_lt row.hour.0 t.marks.hour.0) _ parts.1 in
+      let parts = and_parts (is_known t.nodes row.node) _ sound in
+      let more = and_parts (nat_lt row.hour.0 t.marks.hour.0) _ parts.1 in
       let early = more.0 in
       (grind (arith, nat_tests, early), go (node_at t.nodes row.node) refl parts.0)
     where

@@ -2,6 +2,7 @@
 use Rattle.std.proofs.Common.{◌≡◌, ℕ, suc, ◌+◌, ◌/◌, ◌<◌, ◌≤◌, ◌^◌, true, List, [], ◌∷◌, None, sym, ◌∙◌, arith}
 use Rattle.std.specs.Prelude.{nat_le}
 use Rattle.std.proofs.lemmas.Bool.Decides.{nat_tests}
+use Rattle.std.proofs.lemmas.Bool.{and_parts}
 use Rattle.sat_base.specs.declared.settings.Marks.{Marks}
 use Rattle.rows.specs.Rows.{Each, AllAbove, IsRising}
 use Rattle.node_registry.specs.declared.node.Node.{Node}
@@ -11,26 +12,25 @@ use Rattle.month_pay.specs.Keeping.{AreNodes}
 use Rattle.month_pay.proofs.MonthFacts.{month_mono, begun_is}
 use Rattle.machine_step.specs.Tables.{Setup}
 use Rattle.machine_step.specs.Rules.{first_bad, has_begun, are_sound_marks, breaks_node}
-use Rattle.machine_step.proofs.RowLemmas.{both}
 
 -- the next month to close has begun at each later moment
 pub month-open : (setup : Setup) (marks : Marks) (time : ℕ) → marks.time ≤ time → are_sound_marks setup marks ≡ true → marks.month.0 ≤ month_at time
 month-open setup marks time le sound =
-    let first = both (nat_le setup.first_month marks.month.0) _ sound in
-    let second = both (has_begun marks.month.0 marks.time) _ first.1 in
+    let first = and_parts (nat_le setup.first_month marks.month.0) _ sound in
+    let second = and_parts (has_begun marks.month.0 marks.time) _ first.1 in
     let begun : nat_le marks.month.0 (month_at marks.time) ≡ true = sym (begun_is marks.month.0 marks.time) ∙ second.0 in
     let now : marks.month.0 ≤ month_at marks.time = grind (arith, nat_tests, begun) in
     omega (arith, now, month_mono marks.time time le)
 
 pub month-first : (setup : Setup) (marks : Marks) → are_sound_marks setup marks ≡ true → setup.first_month ≤ marks.month.0
-month-first setup marks sound = let first = (both (nat_le setup.first_month marks.month.0) _ sound).0 in grind (arith, nat_tests, first)
+month-first setup marks sound = let first = (and_parts (nat_le setup.first_month marks.month.0) _ sound).0 in grind (arith, nat_tests, first)
 
 -- the least hour to tally is at most the next one, at each later moment
 pub hour-most : (setup : Setup) (marks : Marks) (time : ℕ) → marks.time ≤ time → are_sound_marks setup marks ≡ true → marks.hour.0 ≤ time / 3600 + 1
 hour-most setup marks time le sound =
-    let first = both (nat_le setup.first_month marks.month.0) _ sound in
-    let second = both (has_begun marks.month.0 marks.time) _ first.1 in
-    let third = (both (nat_le marks.hour.0 (marks.time / 3600 + 1)) _ second.1).0 in
+    let first = and_parts (nat_le setup.first_month marks.month.0) _ sound in
+    let second = and_parts (has_begun marks.month.0 marks.time) _ first.1 in
+    let third = (and_parts (nat_le marks.hour.0 (marks.time / 3600 + 1)) _ second.1).0 in
     let more : marks.time / 3600 ≤ time / 3600 = omega arith in
     grind (arith, nat_tests, third, more)
 

@@ -1,8 +1,7 @@
 -- An order that is read of bytes is a good one, with fields within their types.
-use Rattle.std.proofs.Common.{◌≡◌, ℕ, ◌<◌, ◌^◌, List, Option, Some, None, Result, Ok, Err, length, slice_index, nat_eq, refl, subst, arith}
+use Rattle.std.proofs.Common.{◌≡◌, ℕ, ◌<◌, ◌^◌, List, Option, Some, None, Result, Ok, length, slice_index, nat_eq, subst, arith}
 use Rattle.std.specs.Cmp.Lexicographic.{pointwise}
 use Rattle.std.specs.Int.{w32, w64, from_be_bytes}
-use Rattle.sat_base.specs.Results.{◌>>=◌}
 use Rattle.order_limits.specs.Order.{FitsLimit, FitsOrder, IsGoodOrder, action_of}
 use Rattle.order_limits.specs.Part.{part}
 use Rattle.order_limits.specs.Keys.{node_key, order_tag_of}
@@ -13,7 +12,7 @@ use Rattle.order_limits.specs.declared.limit.Order.{Order}
 use Rattle.order_limits.specs.declared.read.OrderErr.{OrderErr}
 use Rattle.order_limits.specs.declared.read.OrderErr.TheVariants as bad
 use Rattle.order_limits.proofs.Fields.{IsBytes, IsBytes-part, test_ok}
-use Rattle.order_limits.proofs.Reading.{order_found}
+use Rattle.order_limits.proofs.Reading.{order_found, bind_ok}
 
 below_32 : (bytes : List ℕ) → IsBytes bytes → from_be_bytes w32 bytes < 2 ^ 32
 below_32 bytes fits = omega (arith, fits 0, fits 1, fits 2, fits 3)
@@ -32,10 +31,6 @@ read_order o = Ok o
 
 pub order_is : (a b : Order) → read_order a ≡ read_order b → a ≡ b
 order_is a b e = cc
-
-bound : {A B : Type 0} (r : Result A OrderErr) (f : A → Result B OrderErr) (y : B) → (r >>= f) ≡ Ok y → (x : A) × (r ≡ Ok x) × (f x ≡ Ok y)
-bound (Ok x) f y e = (x, refl, e)
-bound (Err d) f y e = absurd cc
 
 -- the fields of bytes are within their types
 fields_fit : (bytes : List ℕ) (l : Limit) → IsBytes bytes → fields_of bytes ≡ Ok l → FitsLimit l
@@ -59,7 +54,7 @@ pub order_fits : (secret bytes : List ℕ) (o : Order) → IsBytes bytes → ord
 unfolding order_of
 order_fits secret bytes o fits e =
     let length_is = test_ok (nat_eq (length bytes) 123) _ (bad.Length (length bytes)) o e in
-    let limit = bound (fields_of (part 0 51 bytes)) _ o length_is.1 in
+    let limit = bind_ok (fields_of (part 0 51 bytes)) _ o length_is.1 in
     let tagged = test_ok (is_tag_of (part 51 32 bytes) (node_key secret limit.0.node) (part 0 51 bytes)) _ bad.LimitTag o limit.2 in
     let signed = test_ok (pointwise nat_eq (part 91 32 bytes) (order_tag_of secret limit.0.serial limit.0.node (number_in w64 83 bytes)))
     (Ok (record { limit = limit.0; amount = number_in w64 83 bytes })) bad.OrderTag o tagged.1 in

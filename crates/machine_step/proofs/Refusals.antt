@@ -7,13 +7,16 @@ use Rattle.machine_step.specs.Containment.{with_releases, swept}
 use Rattle.std.proofs.lemmas.Bool.Decides.{nat_tests}
 use Rattle.machine_calls.specs.declared.call.Call.{Call}
 use Rattle.machine_calls.specs.declared.call.Call.TheVariants as calls
+use Rattle.machine_calls.specs.declared.task.Task.TheVariants as tasks
+use Rattle.machine_calls.specs.declared.wish.Wish.TheVariants as wishes
 use Rattle.machine_calls.specs.declared.refusal.Refusal.{Refusal}
 use Rattle.machine_calls.specs.declared.reply.Reply.TheVariants as replies
 use Rattle.machine_step.specs.Tables.{Tables, all_changed}
 use Rattle.machine_step.specs.Step.{step, case_of, after, is_stopping}
 
 refusal_case : (t : Tables) (call : Call) (cause : Refusal) → (case_of t call).reply ≡ replies.Refused cause → (case_of t call).changes ≡ []
-refusal_case t calls.Stop cause h = refl
+refusal_case t (calls.Asked now words wishes.Stop) cause h = refl
+refusal_case t (calls.Own now tasks.TallyHour) cause h = grind (arith, nat_tests)
 refusal_case t call cause h = grind (arith, nat_tests)
 
 no_changes : (t : Tables) (call : Call) (cause : Refusal) → (step t call).reply ≡ replies.Refused cause → (step t call).changes ≡ []

@@ -18,6 +18,8 @@ use Rattle.settlement.specs.Rows.{row_of}
 use Rattle.settlement.specs.Settle.{fresh, beside, order_settlable, on_order, settlable}
 use Rattle.machine_calls.specs.declared.call.Call.{Call}
 use Rattle.machine_calls.specs.declared.call.Call.TheVariants as calls
+use Rattle.machine_calls.specs.declared.task.Task.TheVariants as tasks
+use Rattle.machine_calls.specs.declared.wish.Wish.TheVariants as wishes
 use Rattle.machine_calls.specs.declared.refusal.Refusal.TheVariants as refusals
 use Rattle.machine_calls.specs.declared.reply.Reply.{Reply}
 use Rattle.machine_calls.specs.declared.reply.Reply.TheVariants as replies
@@ -80,19 +82,19 @@ settle_answered t time rows cap secret node now bytes = on_answered t time (orde
 -- ---- all calls
 
 case_answered : (t : Tables) (call : Call) → is_request call ≡ true → IsAnswered (case_of t call)
-case_answered t (calls.AddNode now request addr port free) asked = grind (arith, nat_tests)
-case_answered t (calls.AddCustomer now request) asked = grind (arith, nat_tests)
-case_answered t (calls.Begin now customer request len words) asked = grind (arith, nat_tests)
-case_answered t (calls.Commit now customer request segment indexes) asked = grind (arith, nat_tests, caused_answered t.setup.n t.setup.o indexes)
-case_answered t (calls.Get now customer request segment) asked = grind (arith, nat_tests)
-case_answered t (calls.Delete now customer request segment) asked = grind (arith, nat_tests)
-case_answered t (calls.Settle now node bytes) asked = grind (arith, nat_tests, settle_answered t)
-case_answered t (calls.SetFree now node free) asked = grind (arith, nat_tests)
-case_answered t (calls.Statement node month) asked = grind (arith, nat_tests)
-case_answered t (calls.CloseMonth now month) asked = grind (arith, nat_tests)
-case_answered t (calls.Exit now node) asked = grind (arith, nat_tests)
-case_answered t (calls.SetRates now month rates) asked = grind (arith, nat_tests)
-case_answered t calls.Stop asked = refl
+case_answered t (calls.Asked now words (wishes.AddNode request addr port free)) asked = grind (arith, nat_tests)
+case_answered t (calls.Asked now words (wishes.AddCustomer request)) asked = grind (arith, nat_tests)
+case_answered t (calls.Asked now words (wishes.Begin customer request len)) asked = grind (arith, nat_tests)
+case_answered t (calls.Asked now words (wishes.Commit customer request segment indexes)) asked = grind (arith, nat_tests, caused_answered t.setup.n t.setup.o indexes)
+case_answered t (calls.Asked now words (wishes.Get customer request segment)) asked = grind (arith, nat_tests)
+case_answered t (calls.Asked now words (wishes.Delete customer request segment)) asked = grind (arith, nat_tests)
+case_answered t (calls.Asked now words (wishes.Settle node bytes)) asked = grind (arith, nat_tests, settle_answered t)
+case_answered t (calls.Asked now words (wishes.SetFree node free)) asked = grind (arith, nat_tests)
+case_answered t (calls.Asked now words (wishes.Statement node month)) asked = grind (arith, nat_tests)
+case_answered t (calls.Asked now words (wishes.CloseMonth month)) asked = grind (arith, nat_tests)
+case_answered t (calls.Asked now words (wishes.Exit node)) asked = grind (arith, nat_tests)
+case_answered t (calls.Asked now words (wishes.SetRates month rates)) asked = grind (arith, nat_tests)
+case_answered t (calls.Asked now words wishes.Stop) asked = refl
 case_answered t _ asked = cc
 
 pub step_answered : (t : Tables) (call : Call) → is_request call ≡ true → IsAnswered (step t call)
@@ -130,15 +132,15 @@ lost-told (replies.StoreFault a b) h = cc
 lost-told replies.NoMemory h = cc
 
 case_made : (t : Tables) (call : Call) → is_lost (case_of t call).reply ≡ false
-case_made t (calls.PlanAudit now words) = grind (arith, nat_tests)
-case_made t (calls.EndAudit now judged) = grind (arith, nat_tests)
-case_made t (calls.PlanRecheck now) = grind (arith, nat_tests)
-case_made t (calls.EndRecheck now plan checked) = grind (arith, nat_tests)
-case_made t (calls.PlanRepair now words) = grind (arith, nat_tests)
-case_made t (calls.EndRepair now outcome) = grind (arith, nat_tests)
-case_made t (calls.TallyHour now) = grind (arith, nat_tests)
-case_made t (calls.PlanExit now words) = grind (arith, nat_tests)
-case_made t (calls.EndExit now outcome) = grind (arith, nat_tests)
+case_made t (calls.Own now (tasks.PlanAudit words)) = grind (arith, nat_tests)
+case_made t (calls.Own now (tasks.EndAudit judged)) = grind (arith, nat_tests)
+case_made t (calls.Own now tasks.PlanRecheck) = grind (arith, nat_tests)
+case_made t (calls.Own now (tasks.EndRecheck plan checked)) = grind (arith, nat_tests)
+case_made t (calls.Own now (tasks.PlanRepair words)) = grind (arith, nat_tests)
+case_made t (calls.Own now (tasks.EndRepair outcome)) = grind (arith, nat_tests)
+case_made t (calls.Own now tasks.TallyHour) = grind (arith, nat_tests)
+case_made t (calls.Own now (tasks.PlanExit words)) = grind (arith, nat_tests)
+case_made t (calls.Own now (tasks.EndExit outcome)) = grind (arith, nat_tests)
 case_made t call = lost-told (case_of t call).reply (case_answered t call refl)
 
 pub step_made : (t : Tables) (call : Call) → is_lost (step t call).reply ≡ false

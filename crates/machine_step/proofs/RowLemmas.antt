@@ -1,6 +1,6 @@
 -- What putting a row or removing one does to a list in the order of ranks, and to what is said of each row.
 use Rattle.std.proofs.Common.{◌≡◌, ℕ, zero, suc, ◌+◌, ◌<◌, ◌≤◌, Bool, true, false, not, List, [], ◌∷◌, length, Some, None, is_some, refl, subst, arith, slice_get}
-use Rattle.std.specs.Prelude.{if◌then◌else◌, ◌==◌, ◌||◌, ◌&&◌, nat_le}
+use Rattle.std.specs.Prelude.{if◌then◌else◌, ◌==◌, ◌||◌, nat_le}
 use Rattle.std.specs.List.{list_all}
 use Rattle.std.proofs.lemmas.Bool.Decides.{nat_tests}
 use Rattle.rows.specs.Rows.{row_at, without, AllAbove, IsRising}
@@ -114,20 +114,6 @@ module _ {R : Type 0} (good : R → Bool) where
   pub plain-back : (rows : List R) (i : ℕ) → list_all good rows ≡ true → first_bad (λ j row. not (good row)) i rows ≡ None
   plain-back [] i all = refl
   plain-back (first ∷ rest) i all = grind (arith, nat_tests, all, plain-back rest (suc i))
-
--- a test that holds wherever another does
-pub all-weaker : {X : Type 0} (strong weak : X → Bool) → ((x : X) → strong x ≡ true → weak x ≡ true) → (xs : List X) → list_all strong xs ≡ true → list_all weak xs ≡ true
-all-weaker strong weak so [] all = refl
-all-weaker strong weak so (x ∷ xs) all = grind (arith, nat_tests, all, so x, all-weaker strong weak so xs)
-
--- both sides of an and
-pub both : (a b : Bool) → (a && b) ≡ true → (a ≡ true) × (b ≡ true)
-both true b h = (refl, h)
-both false b h = cc
-
-pub and_of : (a b : Bool) → a ≡ true → b ≡ true → (a && b) ≡ true
-and_of true b p q = q
-and_of false b p q = cc
 
 -- ---- rows by place
 

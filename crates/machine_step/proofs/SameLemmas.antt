@@ -11,9 +11,7 @@ use Rattle.audit_core.specs.declared.rechecking.RecheckPlan.{RecheckPlan}
 use Rattle.repair_core.specs.declared.plan.RepairPlan.{RepairPlan}
 use Rattle.machine_step.specs.Containment.{same_place}
 use Rattle.machine_step.specs.Plans.{same_places, same_audit, same_recheck, same_repair, is_open}
-
-same-node : (a b : NodeId) → a.0 ≡ b.0 → a ≡ b
-same-node a b e = ap (λ (k : ℕ). let x : NodeId = record { 0 = k } in x) e
+use Rattle.month_pay.proofs.Conserved.{same-id}
 
 pub same-segment : (a b : SegId) → a.0 ≡ b.0 → a ≡ b
 same-segment a b e = ap (λ (k : ℕ). let x : SegId = record { 0 = k } in x) e
@@ -25,7 +23,7 @@ pub same-place : (a b : At) → same_place a b ≡ true → a ≡ b
 same-place a b same =
     let index : a.index ≡ b.index = grind (arith, nat_tests, same) in
     let id : a.node.0 ≡ b.node.0 = grind (arith, nat_tests, same) in
-    ap (λ (k : ℕ). record a { index = k }) index ∙ ap (λ (n : NodeId). record b { node = n }) (same-node a.node b.node id)
+    ap (λ (k : ℕ). record a { index = k }) index ∙ ap (λ (n : NodeId). record b { node = n }) (same-id a.node b.node id)
 
 same-list : (xs ys : List At) → same_places xs ys ≡ true → xs ≡ ys
 same-list [] [] same = refl
@@ -75,7 +73,7 @@ same-recheck a b same =
     ap (λ (x : ℕ). record a { plan = x }) plan
     ∙ ap (λ (x : Serial). record a { plan = b.plan; serial = x }) (same-serial a.serial b.serial serial)
     ∙ ap (λ (x : ℕ). record a { plan = b.plan; serial = b.serial; issued = x }) issued
-    ∙ ap (λ (x : NodeId). record a { plan = b.plan; serial = b.serial; issued = b.issued; node = x }) (same-node a.node b.node node)
+    ∙ ap (λ (x : NodeId). record a { plan = b.plan; serial = b.serial; issued = b.issued; node = x }) (same-id a.node b.node node)
     ∙ ap (λ (x : SegId). record b { segment = x; index = a.index; stripe = a.stripe; expect = a.expect }) (same-segment a.segment b.segment segment)
     ∙ ap (λ (x : ℕ). record b { index = x; stripe = a.stripe; expect = a.expect }) index
     ∙ ap (λ (x : ℕ). record b { stripe = x; expect = a.expect }) stripe

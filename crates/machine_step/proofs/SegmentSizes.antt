@@ -1,7 +1,8 @@
 -- The sizes of segments.
-use Rattle.std.proofs.Common.{◌≡◌, ℕ, ◌*◌, ◌/◌, ◌<◌, ◌≤◌, ◌^◌, Bool, true, false, not, Some, refl, arith}
+use Rattle.std.proofs.Common.{◌≡◌, ℕ, ◌*◌, ◌/◌, ◌<◌, ◌≤◌, ◌^◌, false, Some, arith}
 use Rattle.std.proofs.Math.Nat.{mul-le-mul_left}
 use Rattle.std.proofs.lemmas.Bool.Decides.{nat_tests}
+use Rattle.std.proofs.lemmas.Bool.{not-true}
 use Rattle.segment_core.specs.Record.{SegmentRecord}
 use Rattle.machine_step.specs.Bounds.{IsValid}
 use Rattle.machine_step.specs.Tables.{Setup, Tables, is_no_size, segment_at}
@@ -14,9 +15,8 @@ size-within setup len some few size =
     let most : len ≤ 4194304 / setup.share * setup.k * setup.share = grind (arith, nat_tests, size) in
     omega (arith, all, most, few)
 
-not-true : (b : Bool) → not b ≡ true → b ≡ false
-not-true true h = cc
-not-true false h = refl
+pub size-most : (setup : Setup) (len : ℕ) → 1 ≤ setup.share → setup.k ≤ 128 → is_no_size setup len ≡ false → len ≤ 2 ^ 40
+size-most setup len some few size = let short = size-within setup len some few size in omega (arith, short)
 
 module _ (t : Tables) (v : IsValid t) where
   pub size-short : (len : ℕ) → is_no_size t.setup len ≡ false → len < 2 ^ 40

@@ -1,8 +1,10 @@
 -- Each step keeps the rules of the tables, the order of their rows and the bounds of their records, and releases nothing that stands.
-use Rattle.std.proofs.Common.{ℕ, ◌<◌, ◌^◌, Bool, true, false, List, [], ◌∷◌, ◌++◌, refl, arith}
+use Rattle.std.proofs.Common.{◌≡◌, ℕ, ◌<◌, ◌^◌, Bool, true, false, List, [], ◌∷◌, ◌++◌, refl, ap, arith}
 use Rattle.std.specs.Prelude.{◌||◌, map, if◌then◌else◌}
 use Rattle.machine_calls.specs.declared.call.Call.{Call}
 use Rattle.machine_calls.specs.declared.call.Call.TheVariants as calls
+use Rattle.machine_calls.specs.declared.task.Task.TheVariants as tasks
+use Rattle.machine_calls.specs.declared.wish.Wish.TheVariants as wishes
 use Rattle.machine_calls.specs.declared.refusal.Refusal.TheVariants as refusals
 use Rattle.machine_calls.specs.declared.reply.Reply.TheVariants as replies
 use Rattle.machine_step.specs.Tables.{Tables, all_changed}
@@ -39,32 +41,32 @@ use Rattle.machine_step.proofs.Calls.EndExit.{fit_end_exit}
 use Rattle.machine_step.proofs.Calls.SetRates.{fit_set_rates}
 
 -- the moment of a call is one
-risen_within : (t : Tables) (v : IsValid t) (now : ℕ) → now < 2 ^ 36 → risen t now < 2 ^ 36
+pub risen_within : (t : Tables) (v : IsValid t) (now : ℕ) → now < 2 ^ 36 → risen t now < 2 ^ 36
 risen_within t v now lt = omega (arith, v.bounds.marks.time)
 
 pub fit_case : (t : Tables) (call : Call) → IsValid t → IsWellFormed t call → After t (case_of t call)
-fit_case t (calls.AddNode now request addr port free) v w = fit_add_node t v (asking t operator request now) (omega arith) (risen_within t v now w.formed.timely) refl addr port free
-fit_case t (calls.AddCustomer now request) v w = fit_add_customer t v (asking t operator request now) (omega arith) (risen_within t v now w.formed.timely) refl
-fit_case t (calls.Begin now customer request len words) v w = fit_begin t v (asking t customer request now) (omega arith) (risen_within t v now w.formed.timely) len words
-fit_case t (calls.Commit now customer request segment indexes) v w = fit_commit t v (asking t customer request now) (omega arith) (risen_within t v now w.formed.timely) segment indexes
-fit_case t (calls.Get now customer request segment) v w = fit_get t v (asking t customer request now) (omega arith) (risen_within t v now w.formed.timely) segment
-fit_case t (calls.Delete now customer request segment) v w = fit_delete t v (asking t customer request now) (omega arith) (risen_within t v now w.formed.timely) segment
-fit_case t (calls.Settle now node bytes) v w = fit_settle t v (risen t now) (omega arith) (risen_within t v now w.formed.timely) node bytes w.formed.bytes
-fit_case t (calls.SetFree now node free) v w = fit_set_free t v (risen t now) (omega arith) (risen_within t v now w.formed.timely) node free
-fit_case t (calls.Statement node month) v w = fit_statement t v node month
-fit_case t (calls.PlanAudit now words) v w = fit_plan_audit t v (risen t now) (omega arith) (risen_within t v now w.formed.timely) words
-fit_case t (calls.EndAudit now judged) v w = fit_end_audit t v (risen t now) (omega arith) (risen_within t v now w.formed.timely) judged
-fit_case t (calls.PlanRecheck now) v w = fit_plan_recheck t v (risen t now) (omega arith) (risen_within t v now w.formed.timely)
-fit_case t (calls.EndRecheck now plan checked) v w = fit_end_recheck t v (risen t now) (omega arith) (risen_within t v now w.formed.timely) plan checked
-fit_case t (calls.PlanRepair now words) v w = fit_plan_repair t v (risen t now) (omega arith) (risen_within t v now w.formed.timely) words
-fit_case t (calls.EndRepair now outcome) v w = fit_end_repair t v (risen t now) (omega arith) (risen_within t v now w.formed.timely) outcome w.scheme
-fit_case t (calls.TallyHour now) v w = fit_tally_hour t v (risen t now) (omega arith) (risen_within t v now w.formed.timely)
-fit_case t (calls.CloseMonth now month) v w = fit_close_month t v (risen t now) (omega arith) (risen_within t v now w.formed.timely) month
-fit_case t (calls.Exit now node) v w = fit_exit t v (risen t now) (omega arith) (risen_within t v now w.formed.timely) node
-fit_case t (calls.PlanExit now words) v w = fit_plan_exit t v (risen t now) (omega arith) (risen_within t v now w.formed.timely) words
-fit_case t (calls.EndExit now outcome) v w = fit_end_exit t v (risen t now) (omega arith) (risen_within t v now w.formed.timely) outcome w.scheme
-fit_case t (calls.SetRates now month rates) v w = fit_set_rates t v (risen t now) (omega arith) (risen_within t v now w.formed.timely) month rates w.formed.tariff
-fit_case t calls.Stop v w = still t v replies.Stopping
+fit_case t (calls.Asked now words (wishes.AddNode request addr port free)) v w = fit_add_node t v (asking t operator request now) (omega arith) (risen_within t v now w.formed.timely) refl addr port free
+fit_case t (calls.Asked now words (wishes.AddCustomer request)) v w = fit_add_customer t v (asking t operator request now) (omega arith) (risen_within t v now w.formed.timely) refl
+fit_case t (calls.Asked now words (wishes.Begin customer request len)) v w = fit_begin t v (asking t customer request now) (omega arith) (risen_within t v now w.formed.timely) len words
+fit_case t (calls.Asked now words (wishes.Commit customer request segment indexes)) v w = fit_commit t v (asking t customer request now) (omega arith) (risen_within t v now w.formed.timely) segment indexes
+fit_case t (calls.Asked now words (wishes.Get customer request segment)) v w = fit_get t v (asking t customer request now) (omega arith) (risen_within t v now w.formed.timely) segment
+fit_case t (calls.Asked now words (wishes.Delete customer request segment)) v w = fit_delete t v (asking t customer request now) (omega arith) (risen_within t v now w.formed.timely) segment
+fit_case t (calls.Asked now words (wishes.Settle node bytes)) v w = fit_settle t v (risen t now) (omega arith) (risen_within t v now w.formed.timely) node bytes w.formed.bytes
+fit_case t (calls.Asked now words (wishes.SetFree node free)) v w = fit_set_free t v (risen t now) (omega arith) (risen_within t v now w.formed.timely) node free
+fit_case t (calls.Asked now words (wishes.Statement node month)) v w = fit_statement t v node month
+fit_case t (calls.Own now (tasks.PlanAudit words)) v w = fit_plan_audit t v (risen t now) (omega arith) (risen_within t v now w.formed.timely) words
+fit_case t (calls.Own now (tasks.EndAudit judged)) v w = fit_end_audit t v (risen t now) (omega arith) (risen_within t v now w.formed.timely) judged
+fit_case t (calls.Own now tasks.PlanRecheck) v w = fit_plan_recheck t v (risen t now) (omega arith) (risen_within t v now w.formed.timely)
+fit_case t (calls.Own now (tasks.EndRecheck plan checked)) v w = fit_end_recheck t v (risen t now) (omega arith) (risen_within t v now w.formed.timely) plan checked
+fit_case t (calls.Own now (tasks.PlanRepair words)) v w = fit_plan_repair t v (risen t now) (omega arith) (risen_within t v now w.formed.timely) words
+fit_case t (calls.Own now (tasks.EndRepair outcome)) v w = fit_end_repair t v (risen t now) (omega arith) (risen_within t v now w.formed.timely) outcome w.scheme
+fit_case t (calls.Own now tasks.TallyHour) v w = fit_tally_hour t v (risen t now) (omega arith) (risen_within t v now w.formed.timely)
+fit_case t (calls.Asked now words (wishes.CloseMonth month)) v w = fit_close_month t v (risen t now) (omega arith) (risen_within t v now w.formed.timely) month
+fit_case t (calls.Asked now words (wishes.Exit node)) v w = fit_exit t v (risen t now) (omega arith) (risen_within t v now w.formed.timely) node
+fit_case t (calls.Own now (tasks.PlanExit words)) v w = fit_plan_exit t v (risen t now) (omega arith) (risen_within t v now w.formed.timely) words
+fit_case t (calls.Own now (tasks.EndExit outcome)) v w = fit_end_exit t v (risen t now) (omega arith) (risen_within t v now w.formed.timely) outcome w.scheme
+fit_case t (calls.Asked now words (wishes.SetRates month rates)) v w = fit_set_rates t v (risen t now) (omega arith) (risen_within t v now w.formed.timely) month rates w.formed.tariff
+fit_case t (calls.Asked now words wishes.Stop) v w = still t v replies.Stopping
 
 pub follows_step : (t : Tables) (call : Call) → IsValid t → IsWellFormed t call → Follows t (after t call)
 follows_step t call v w = go t.stopped
@@ -99,3 +101,11 @@ writable_step t call v w = go t.stopped
     go : (b : Bool) → Each IsWritable (if b then refused refusals.Stopped else swept t (case_of t call)).changes
     go true = tt
     go false = with_releases_writable t (case_of t call).changes (fit_case t call v w).written
+
+-- where the machine isn't stopped, the step is the case of the call, and what it releases
+pub step-running : (t : Tables) (call : Call) → t.stopped ≡ false → step t call ≡ swept t (case_of t call)
+step-running t call running = ap (λ (b : Bool). if b then refused refusals.Stopped else swept t (case_of t call)) running
+
+-- where it runs, a step's reply is that of its case
+pub reply_of_case : (t : Tables) (call : Call) → t.stopped ≡ false → (step t call).reply ≡ (case_of t call).reply
+reply_of_case t call running = ap (λ (b : Bool). (if b then refused refusals.Stopped else swept t (case_of t call)).reply) running

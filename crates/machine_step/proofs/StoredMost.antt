@@ -6,6 +6,7 @@ use Rattle.std.proofs.Math.Nat.{mul-le-mul_left}
 use Rattle.std.proofs.lemmas.Grind.{div_ceil_times}
 use Rattle.std.proofs.lemmas.List.Sums.{sum_by-cons}
 use Rattle.std.proofs.lemmas.Bool.Decides.{nat_tests}
+use Rattle.std.proofs.lemmas.Bool.{and_parts}
 use Rattle.sat_base.specs.Scheme.{IsScheme, stripe_count}
 use Rattle.sat_base.specs.declared.limits.TheConstants as limits
 use Rattle.sat_base.specs.declared.settings.Marks.{Marks}
@@ -18,7 +19,6 @@ use Rattle.machine_step.specs.Stored.{piece_bytes, lies_at, stored_bytes}
 use Rattle.machine_step.specs.Rules.{is_sound_segment}
 use Rattle.machine_step.specs.Bounds.{IsValid}
 use Rattle.machine_step.proofs.GrowthLemmas.{fine}
-use Rattle.machine_step.proofs.RowLemmas.{both}
 use Rattle.machine_step.proofs.Validity.{segments_hold}
 
 div-most : (len most width : ℕ) → 0 < width → len ≤ most * width → len / width + min 1 (len % width) ≤ most
@@ -47,7 +47,7 @@ module _ (setup : Setup) (scheme : IsScheme setup.k setup.m setup.o setup.n setu
   sum-most : (marks : Marks) (nodes : List Node) (customers : List Customer) (test : SegmentRecord → Bool) (rows : List SegmentRecord) → list_all (is_sound_segment setup marks nodes customers) rows ≡ true → sum_by (piece_bytes setup) (filter test rows) ≤ length rows * limits.PIECE
   sum-most marks nodes customers test [] all = omega arith
   sum-most marks nodes customers test (segment ∷ rows) all =
-      let parts = both (is_sound_segment setup marks nodes customers segment) _ all in
+      let parts = and_parts (is_sound_segment setup marks nodes customers segment) _ all in
       let one = piece-most segment (fine setup marks nodes customers segment parts.0).sized in
       go (test segment) one (sum-most marks nodes customers test rows parts.1)
     where

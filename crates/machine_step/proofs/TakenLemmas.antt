@@ -4,6 +4,7 @@ use Rattle.std.specs.Prelude.{nat_eq, ◌==◌}
 use Rattle.std.specs.List.{list_any}
 use Rattle.std.specs.Set.{is_member}
 use Rattle.std.proofs.lemmas.Bool.Decides.{nat_tests}
+use Rattle.std.proofs.lemmas.Bool.{and_parts}
 use Rattle.sat_base.specs.declared.records.At.{At}
 use Rattle.node_registry.specs.declared.node.Node.{Node}
 use Rattle.node_registry.specs.Registry.{node_at}
@@ -14,7 +15,6 @@ use Rattle.placement.proofs.Picks.{fit-next}
 use Rattle.machine_step.specs.Places.{and_next, picks_more, picks_of, subnets_of, addr_of}
 use Rattle.machine_step.specs.Rules.{are_apart}
 use Rattle.machine_step.specs.Bounds.{Each}
-use Rattle.machine_step.proofs.RowLemmas.{both}
 use Rattle.node_registry.specs.Subnet.{subnet_at}
 
 abbrev pub OffTaken : Terms → Node → Type 0
@@ -47,7 +47,7 @@ off-member s (x ∷ xs) off = grind (arith, nat_tests, off, off-member s xs)
 pub apart-both : (xs ys : List ℕ) → are_apart xs ≡ true → are_apart ys ≡ true → Each (λ y. list_any (λ other. y == other) xs ≡ false) ys → are_apart (xs ++ ys) ≡ true
 apart-both [] ys apart apart' off = apart'
 apart-both (x ∷ xs) ys apart apart' off =
-    let parts = both (not (list_any (λ other. x == other) xs)) (are_apart xs) apart in
+    let parts = and_parts (not (list_any (λ other. x == other) xs)) (are_apart xs) apart in
     let head : list_any (λ other. x == other) (xs ++ ys) ≡ false = off-both xs ys parts.0 (heads ys off) in
     let rest = apart-both xs ys parts.1 apart' (tails ys off) in
     grind (arith, nat_tests, head, rest)

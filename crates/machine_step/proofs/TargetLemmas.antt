@@ -3,6 +3,7 @@ use Rattle.std.proofs.Common.{◌≡◌, ℕ, ◌≤◌, Bool, true, false, List
 use Rattle.std.specs.Prelude.{if◌then◌else◌, nat_lt, ◌==◌, filter, fold}
 use Rattle.std.specs.List.{list_any}
 use Rattle.std.proofs.lemmas.Bool.Decides.{nat_tests}
+use Rattle.std.proofs.lemmas.Bool.{and_parts, and_from}
 use Rattle.sat_base.specs.declared.records.At.{At}
 use Rattle.rows.specs.Rows.{AllAbove, IsRising}
 use Rattle.node_registry.specs.declared.node.Node.{Node}
@@ -10,7 +11,7 @@ use Rattle.segment_core.specs.Places.{index_of}
 use Rattle.machine_step.specs.Places.{subnets_of}
 use Rattle.machine_step.specs.Rules.{is_known, are_known, are_apart, are_below}
 use Rattle.machine_step.specs.Mending.{with_piece}
-use Rattle.machine_step.proofs.RowLemmas.{rising-with_row, all-with_row, both, and_of}
+use Rattle.machine_step.proofs.RowLemmas.{rising-with_row, all-with_row}
 use Rattle.machine_step.proofs.IndexLemmas.{above-some}
 use Rattle.machine_step.proofs.ApartLemmas.{subnet, IsOff, off-with_piece, apart-with_piece, off-filtered}
 
@@ -68,7 +69,7 @@ well-filtered nodes n test (x ∷ xs) well =
     go : (b : Bool) → is_known nodes x.node ≡ true → nat_lt x.index n ≡ true → IsOff nodes (subnet nodes x) (filter test xs) → AllAbove index_of x.index (filter test xs) → AreWell nodes n (filter test xs) → AreWell nodes n (if b then x ∷ filter test xs else filter test xs)
     go true known below off above rest =
         let k = rest.known in let b = rest.below in let a = rest.apart in
-        record { rising = (above, rest.rising); known = and_of _ _ known k; below = and_of _ _ below b; apart = grind (arith, nat_tests, off, a) }
+        record { rising = (above, rest.rising); known = and_from _ _ known k; below = and_from _ _ below b; apart = grind (arith, nat_tests, off, a) }
     go false known below off above rest = rest
 
 pub open-filtered : (nodes : List Node) (n : ℕ) (kept test : At → Bool) (pieces targets : List At) → AreOpen nodes n pieces targets → AreOpen nodes n (filter kept pieces) (filter test targets)
@@ -115,7 +116,7 @@ apart-rest nodes (x ∷ xs) target rest apart =
 pub open-targets : (nodes : List Node) (n : ℕ) (pieces targets : List At) → are_known nodes targets ≡ true → are_below n targets ≡ true → are_apart (subnets_of nodes (pieces ++ targets)) ≡ true → AreOpen nodes n pieces targets
 open-targets nodes n pieces [] known below apart = tt
 open-targets nodes n pieces (target ∷ rest) known below apart =
-    let knowns = both (is_known nodes target.node) (are_known nodes rest) known in
-    let belows = both (nat_lt target.index n) (are_below n rest) below in
+    let knowns = and_parts (is_known nodes target.node) (are_known nodes rest) known in
+    let belows = and_parts (nat_lt target.index n) (are_below n rest) below in
     let parts = apart-rest nodes pieces target rest apart in
     (knowns.0, belows.0, apart-off nodes pieces target rest apart, parts.1, open-targets nodes n pieces rest knowns.1 belows.1 parts.0)

@@ -3,6 +3,7 @@ use Rattle.std.proofs.Common.{◌≡◌, ℕ, suc, ◌+◌, ◌<◌, ◌≤◌, 
 use Rattle.std.specs.Prelude.{if◌then◌else◌, nat_lt, nat_le, ◌||◌, ◌&&◌}
 use Rattle.std.specs.List.{list_all}
 use Rattle.std.proofs.lemmas.Bool.Decides.{nat_tests}
+use Rattle.std.proofs.lemmas.Bool.{and_parts, and_from}
 use Rattle.sat_base.specs.declared.limits.TheConstants as limits
 use Rattle.sat_base.specs.declared.rates.Tariff.{Tariff}
 use Rattle.sat_base.specs.Ranks.{tariff_rank}
@@ -10,7 +11,7 @@ use Rattle.rows.specs.Rows.{row_at}
 use Rattle.rows.specs.Slots.{with_row}
 use Rattle.month_pay.proofs.ListFacts.{none_joined}
 use Rattle.machine_step.specs.Rules.{bad_tariffs, missing_tariff, bad_tariff}
-use Rattle.machine_step.proofs.RowLemmas.{row_at-with_row, all-with_row, both, and_of}
+use Rattle.machine_step.proofs.RowLemmas.{row_at-with_row, all-with_row}
 use Rattle.machine_step.proofs.LeftLemmas.{least-none}
 
 module _ (first : ℕ) where
@@ -26,12 +27,12 @@ module _ (first : ℕ) where
       go false false e f h later =
           let below : i < limits.TARIFFS = grind (arith, nat_tests, f) in
           let rest_holds = later h (omega arith) in
-          (and_of _ _ (grind (arith, nat_tests, e)) rest_holds.0, omega (arith, rest_holds.1))
+          (and_from _ _ (grind (arith, nat_tests, e)) rest_holds.0, omega (arith, rest_holds.1))
 
   tariffs-back : (rows : List Tariff) (i : ℕ) → list_all (λ row. nat_le first row.from.0) rows ≡ true → i + length rows ≤ limits.TARIFFS → bad_tariffs first i rows ≡ []
   tariffs-back [] i all few = refl
   tariffs-back (row ∷ rest) i all few =
-      let parts = both (nat_le first row.from.0) _ all in
+      let parts = and_parts (nat_le first row.from.0) _ all in
       let late = parts.0 in
       go (nat_lt row.from.0 first) (nat_le limits.TARIFFS i) (grind (arith, nat_tests, late)) (grind (arith, nat_tests)) (tariffs-back rest (suc i) parts.1 (omega arith))
     where

@@ -3,10 +3,13 @@ use Rattle.std.proofs.Common.{◌≡◌, ℕ, ◌/◌, Bool, true, false, List, 
 use Rattle.std.specs.Prelude.{◌==◌, if◌then◌else◌, map}
 use Rattle.std.specs.List.{list_all}
 use Rattle.std.proofs.lemmas.Bool.Decides.{nat_tests}
+use Rattle.std.proofs.lemmas.Bool.{and_parts, and_from}
 use Rattle.sat_base.specs.declared.records.Key.TheVariants as keys
 use Rattle.segment_core.specs.Commit.{is_among}
 use Rattle.machine_calls.specs.declared.call.Call.{Call}
 use Rattle.machine_calls.specs.declared.call.Call.TheVariants as calls
+use Rattle.machine_calls.specs.declared.task.Task.TheVariants as tasks
+use Rattle.machine_calls.specs.declared.wish.Wish.TheVariants as wishes
 use Rattle.machine_calls.specs.declared.change.RecChange.{RecChange}
 use Rattle.machine_calls.specs.declared.change.RecChange.TheVariants as changes
 use Rattle.tally_payout.specs.declared.amounts.Tally.{Tally}
@@ -18,7 +21,6 @@ use Rattle.machine_step.specs.Step.{risen, case_of}
 use Rattle.sat_base.specs.declared.records.Containment.{Containment}
 use Rattle.node_registry.specs.declared.node.Node.{Node}
 use Rattle.machine_step.specs.Calls.EndAudit.{nodes_after, containments_after}
-use Rattle.machine_step.proofs.RowLemmas.{both, and_of}
 
 -- the kind of the record that a change puts or removes
 abbrev pub kind_of : RecChange → ℕ
@@ -48,79 +50,79 @@ are_of kinds cs = list_all (λ c. is_among kinds (kind_of c)) cs
 
 -- the kinds that a call may touch, beside the releases behind it
 abbrev pub kinds_of : Call → List ℕ
-kinds_of (calls.AddNode now request addr port free) = 2 ∷ 3 ∷ 13 ∷ []
-kinds_of (calls.AddCustomer now request) = 2 ∷ 4 ∷ 13 ∷ []
-kinds_of (calls.Begin now customer request len words) = 2 ∷ 5 ∷ 13 ∷ []
-kinds_of (calls.Commit now customer request segment indexes) = 2 ∷ 5 ∷ 13 ∷ []
-kinds_of (calls.Get now customer request segment) = 2 ∷ 13 ∷ []
-kinds_of (calls.Delete now customer request segment) = 2 ∷ 5 ∷ 13 ∷ []
-kinds_of (calls.Settle now node bytes) = 2 ∷ 6 ∷ []
-kinds_of (calls.SetFree now node free) = 2 ∷ 3 ∷ []
-kinds_of (calls.Statement node month) = []
-kinds_of (calls.PlanAudit now words) = 2 ∷ 9 ∷ []
-kinds_of (calls.EndAudit now judged) = 2 ∷ 3 ∷ 9 ∷ 12 ∷ []
-kinds_of (calls.PlanRecheck now) = 2 ∷ 10 ∷ []
-kinds_of (calls.EndRecheck now plan checked) = 2 ∷ 3 ∷ 10 ∷ 12 ∷ []
-kinds_of (calls.PlanRepair now words) = 2 ∷ 11 ∷ []
-kinds_of (calls.EndRepair now outcome) = 2 ∷ 3 ∷ 5 ∷ 11 ∷ []
-kinds_of (calls.TallyHour now) = 2 ∷ 7 ∷ []
-kinds_of (calls.CloseMonth now month) = 2 ∷ 8 ∷ []
-kinds_of (calls.Exit now node) = 2 ∷ 3 ∷ []
-kinds_of (calls.PlanExit now words) = 2 ∷ 3 ∷ 14 ∷ 15 ∷ []
-kinds_of (calls.EndExit now outcome) = 2 ∷ 3 ∷ 5 ∷ 14 ∷ []
-kinds_of (calls.SetRates now month rates) = 2 ∷ 16 ∷ []
-kinds_of calls.Stop = []
+kinds_of (calls.Asked now words (wishes.AddNode request addr port free)) = 2 ∷ 3 ∷ 13 ∷ []
+kinds_of (calls.Asked now words (wishes.AddCustomer request)) = 2 ∷ 4 ∷ 13 ∷ []
+kinds_of (calls.Asked now words (wishes.Begin customer request len)) = 2 ∷ 5 ∷ 13 ∷ []
+kinds_of (calls.Asked now words (wishes.Commit customer request segment indexes)) = 2 ∷ 5 ∷ 13 ∷ []
+kinds_of (calls.Asked now words (wishes.Get customer request segment)) = 2 ∷ 13 ∷ []
+kinds_of (calls.Asked now words (wishes.Delete customer request segment)) = 2 ∷ 5 ∷ 13 ∷ []
+kinds_of (calls.Asked now words (wishes.Settle node bytes)) = 2 ∷ 6 ∷ []
+kinds_of (calls.Asked now words (wishes.SetFree node free)) = 2 ∷ 3 ∷ []
+kinds_of (calls.Asked now words (wishes.Statement node month)) = []
+kinds_of (calls.Own now (tasks.PlanAudit words)) = 2 ∷ 9 ∷ []
+kinds_of (calls.Own now (tasks.EndAudit judged)) = 2 ∷ 3 ∷ 9 ∷ 12 ∷ []
+kinds_of (calls.Own now tasks.PlanRecheck) = 2 ∷ 10 ∷ []
+kinds_of (calls.Own now (tasks.EndRecheck plan checked)) = 2 ∷ 3 ∷ 10 ∷ 12 ∷ []
+kinds_of (calls.Own now (tasks.PlanRepair words)) = 2 ∷ 11 ∷ []
+kinds_of (calls.Own now (tasks.EndRepair outcome)) = 2 ∷ 3 ∷ 5 ∷ 11 ∷ []
+kinds_of (calls.Own now tasks.TallyHour) = 2 ∷ 7 ∷ []
+kinds_of (calls.Asked now words (wishes.CloseMonth month)) = 2 ∷ 8 ∷ []
+kinds_of (calls.Asked now words (wishes.Exit node)) = 2 ∷ 3 ∷ []
+kinds_of (calls.Own now (tasks.PlanExit words)) = 2 ∷ 3 ∷ 14 ∷ 15 ∷ []
+kinds_of (calls.Own now (tasks.EndExit outcome)) = 2 ∷ 3 ∷ 5 ∷ 14 ∷ []
+kinds_of (calls.Asked now words (wishes.SetRates month rates)) = 2 ∷ 16 ∷ []
+kinds_of (calls.Asked now words wishes.Stop) = []
 
 -- ---- what each call touches
 
 pub of-nodes : (kinds : List ℕ) (nodes : List Node) → is_among kinds 3 ≡ true → are_of kinds (map changes.Node nodes) ≡ true
 of-nodes kinds [] has = refl
-of-nodes kinds (node ∷ nodes) has = and_of _ _ has (of-nodes kinds nodes has)
+of-nodes kinds (node ∷ nodes) has = and_from _ _ has (of-nodes kinds nodes has)
 
 pub of-containments : (kinds : List ℕ) (rows : List Containment) → is_among kinds 12 ≡ true → are_of kinds (map changes.Containment rows) ≡ true
 of-containments kinds [] has = refl
-of-containments kinds (row ∷ rows) has = and_of _ _ has (of-containments kinds rows has)
+of-containments kinds (row ∷ rows) has = and_from _ _ has (of-containments kinds rows has)
 
 of-tallies : (kinds : List ℕ) (rows : List Tally) → is_among kinds 7 ≡ true → are_of kinds (map changes.Tally rows) ≡ true
 of-tallies kinds [] has = refl
-of-tallies kinds (row ∷ rows) has = and_of _ _ has (of-tallies kinds rows has)
+of-tallies kinds (row ∷ rows) has = and_from _ _ has (of-tallies kinds rows has)
 
 of-statements : (kinds : List ℕ) (rows : List Statement) → is_among kinds 8 ≡ true → are_of kinds (map changes.Statement rows) ≡ true
 of-statements kinds [] has = refl
-of-statements kinds (row ∷ rows) has = and_of _ _ has (of-statements kinds rows has)
+of-statements kinds (row ∷ rows) has = and_from _ _ has (of-statements kinds rows has)
 
 pub of-append : (kinds : List ℕ) (xs ys : List RecChange) → are_of kinds xs ≡ true → are_of kinds ys ≡ true → are_of kinds (xs ++ ys) ≡ true
 of-append kinds [] ys h k = k
-of-append kinds (x ∷ xs) ys h k = let parts = both (is_among kinds (kind_of x)) (are_of kinds xs) h in and_of _ _ parts.0 (of-append kinds xs ys parts.1 k)
+of-append kinds (x ∷ xs) ys h k = let parts = and_parts (is_among kinds (kind_of x)) (are_of kinds xs) h in and_from _ _ parts.0 (of-append kinds xs ys parts.1 k)
 
 pub touched : (t : Tables) (call : Call) → are_of (kinds_of call) (case_of t call).changes ≡ true
-touched t (calls.AddNode now request addr port free) = grind (arith, nat_tests)
-touched t (calls.AddCustomer now request) = grind (arith, nat_tests)
-touched t (calls.Begin now customer request len words) = grind (arith, nat_tests)
-touched t (calls.Commit now customer request segment indexes) = grind (arith, nat_tests)
-touched t (calls.Get now customer request segment) = grind (arith, nat_tests)
-touched t (calls.Delete now customer request segment) = grind (arith, nat_tests)
-touched t (calls.Settle now node bytes) = grind (arith, nat_tests)
-touched t (calls.SetFree now node free) = grind (arith, nat_tests)
-touched t (calls.Statement node month) = grind (arith, nat_tests)
-touched t (calls.PlanAudit now words) = grind (arith, nat_tests)
-touched t (calls.EndAudit now judged) =
-    let kinds = kinds_of (calls.EndAudit now judged) in
+touched t (calls.Asked now words (wishes.AddNode request addr port free)) = grind (arith, nat_tests)
+touched t (calls.Asked now words (wishes.AddCustomer request)) = grind (arith, nat_tests)
+touched t (calls.Asked now words (wishes.Begin customer request len)) = grind (arith, nat_tests)
+touched t (calls.Asked now words (wishes.Commit customer request segment indexes)) = grind (arith, nat_tests)
+touched t (calls.Asked now words (wishes.Get customer request segment)) = grind (arith, nat_tests)
+touched t (calls.Asked now words (wishes.Delete customer request segment)) = grind (arith, nat_tests)
+touched t (calls.Asked now words (wishes.Settle node bytes)) = grind (arith, nat_tests)
+touched t (calls.Asked now words (wishes.SetFree node free)) = grind (arith, nat_tests)
+touched t (calls.Asked now words (wishes.Statement node month)) = grind (arith, nat_tests)
+touched t (calls.Own now (tasks.PlanAudit words)) = grind (arith, nat_tests)
+touched t (calls.Own now (tasks.EndAudit judged)) =
+    let kinds = kinds_of (calls.Own now (tasks.EndAudit judged)) in
     let some = of-append kinds (map changes.Node (nodes_after t judged)) (map changes.Containment (containments_after t judged)) (of-nodes kinds (nodes_after t judged) refl) (of-containments kinds (containments_after t judged) refl) in
     grind (arith, nat_tests, some)
-touched t (calls.PlanRecheck now) = grind (arith, nat_tests)
-touched t (calls.EndRecheck now plan checked) = grind (arith, nat_tests)
-touched t (calls.PlanRepair now words) = grind (arith, nat_tests)
-touched t (calls.EndRepair now outcome) =
-    let some : (nodes : List Node) → are_of (kinds_of (calls.EndRepair now outcome)) (map changes.Node nodes) ≡ true = λ nodes. of-nodes (kinds_of (calls.EndRepair now outcome)) nodes refl in grind (arith, nat_tests, some)
-touched t (calls.TallyHour now) = let some = of-tallies (kinds_of (calls.TallyHour now)) (hour_rows t (risen t now / 3600)) refl in grind (arith, nat_tests, some)
-touched t (calls.CloseMonth now month) = let some = of-statements (kinds_of (calls.CloseMonth now month)) (month_rows (ledger_of t) t.marks.month.0) refl in grind (arith, nat_tests, some)
-touched t (calls.Exit now node) = grind (arith, nat_tests)
-touched t (calls.PlanExit now words) = grind (arith, nat_tests)
-touched t (calls.EndExit now outcome) =
-    let some : (nodes : List Node) → are_of (kinds_of (calls.EndExit now outcome)) (map changes.Node nodes) ≡ true = λ nodes. of-nodes (kinds_of (calls.EndExit now outcome)) nodes refl in grind (arith, nat_tests, some)
-touched t (calls.SetRates now month rates) = grind (arith, nat_tests)
-touched t calls.Stop = refl
+touched t (calls.Own now tasks.PlanRecheck) = grind (arith, nat_tests)
+touched t (calls.Own now (tasks.EndRecheck plan checked)) = grind (arith, nat_tests)
+touched t (calls.Own now (tasks.PlanRepair words)) = grind (arith, nat_tests)
+touched t (calls.Own now (tasks.EndRepair outcome)) =
+    let some : (nodes : List Node) → are_of (kinds_of (calls.Own now (tasks.EndRepair outcome))) (map changes.Node nodes) ≡ true = λ nodes. of-nodes (kinds_of (calls.Own now (tasks.EndRepair outcome))) nodes refl in grind (arith, nat_tests, some)
+touched t (calls.Own now tasks.TallyHour) = let some = of-tallies (kinds_of (calls.Own now tasks.TallyHour)) (hour_rows t (risen t now / 3600)) refl in grind (arith, nat_tests, some)
+touched t (calls.Asked now words (wishes.CloseMonth month)) = let some = of-statements (kinds_of (calls.Asked now words (wishes.CloseMonth month))) (month_rows (ledger_of t) t.marks.month.0) refl in grind (arith, nat_tests, some)
+touched t (calls.Asked now words (wishes.Exit node)) = grind (arith, nat_tests)
+touched t (calls.Own now (tasks.PlanExit words)) = grind (arith, nat_tests)
+touched t (calls.Own now (tasks.EndExit outcome)) =
+    let some : (nodes : List Node) → are_of (kinds_of (calls.Own now (tasks.EndExit outcome))) (map changes.Node nodes) ≡ true = λ nodes. of-nodes (kinds_of (calls.Own now (tasks.EndExit outcome))) nodes refl in grind (arith, nat_tests, some)
+touched t (calls.Asked now words (wishes.SetRates month rates)) = grind (arith, nat_tests)
+touched t (calls.Asked now words wishes.Stop) = refl
 
 other-kind : (kinds : List ℕ) (kind own : ℕ) → is_among kinds kind ≡ true → is_among kinds own ≡ false → (kind == own) ≡ false
 other-kind kinds kind own has lacks = go (kind == own) refl
@@ -134,7 +136,7 @@ module _ {X : Type 0} (part : Tables → X) (own : ℕ) (leaves : (c : RecChange
   pub frame : (kinds : List ℕ) (cs : List RecChange) (t : Tables) → are_of kinds cs ≡ true → is_among kinds own ≡ false → part (all_changed t cs) ≡ part t
   frame kinds [] t all lacks = refl
   frame kinds (c ∷ cs) t all lacks =
-      let parts = both (is_among kinds (kind_of c)) (are_of kinds cs) all in
+      let parts = and_parts (is_among kinds (kind_of c)) (are_of kinds cs) all in
       frame kinds cs (changed t c) parts.1 lacks ∙ leaves c t (other-kind kinds (kind_of c) own parts.0 lacks)
 
 leaves-nodes : (c : RecChange) (t : Tables) → (kind_of c == 3) ≡ false → (changed t c).nodes ≡ t.nodes

@@ -3,6 +3,7 @@ use Rattle.std.proofs.Common.{◌≡◌, ℕ, Bool, true, List, [], ◌∷◌, O
 use Rattle.std.specs.Prelude.{nat_lt, ◌&&◌, filter}
 use Rattle.std.specs.List.{list_all}
 use Rattle.std.proofs.lemmas.Bool.Decides.{nat_tests}
+use Rattle.std.proofs.lemmas.Bool.{and_parts, and_from}
 use Rattle.sat_base.specs.declared.records.At.{At}
 use Rattle.sat_base.specs.declared.records.Containment.{Containment}
 use Rattle.node_registry.specs.Registry.{node_at}
@@ -14,7 +15,7 @@ use Rattle.machine_step.specs.Containment.{stands, place_of, has_live_piece, ser
 use Rattle.machine_step.specs.Rules.{least, is_sound_segment, is_sound_settled, is_sound_tally, is_sound_kept}
 use Rattle.machine_step.specs.PlanRules.{is_none_or, is_sound_audit, is_sound_recheck, is_sound_repair, is_sound_exit, is_owed}
 use Rattle.machine_step.specs.Bounds.{IsAuditWithin, IsRepairWithin, IsExitWithin, IsValid}
-use Rattle.machine_step.proofs.RowLemmas.{all-found, found_rank, capped-all, capped-length, capped-back, plain-all, plain-back, all-weaker, both, and_of}
+use Rattle.machine_step.proofs.RowLemmas.{all-found, found_rank, capped-all, capped-length, capped-back, plain-all, plain-back}
 use Rattle.machine_step.proofs.GrowthLemmas.{fine}
 use Rattle.machine_step.proofs.ReleaseLemmas.{left_of, releases_are, left_standing, rising-filtered, all-kept}
 use Rattle.machine_step.proofs.PieceLemmas.{all-filtered}
@@ -25,6 +26,7 @@ use Rattle.machine_step.specs.Closed.{StaysClosed}
 use Rattle.machine_step.proofs.Changes.{some_map, steady_containments}
 use Rattle.machine_step.proofs.Becoming.{Becomes}
 use Rattle.machine_step.proofs.Paid.{IsPaid, statements_of}
+use Rattle.month_pay.proofs.ListFacts.{all-weaker}
 
 -- a plan that is sound, in parts
 all_some : {X : Type 0} (test : X → Bool) (P W : X → Type 0) (found : Option X) → is_none_or test found ≡ true → IfSome found W → ((x : X) → test x ≡ true → W x → P x) → IfSome found P
@@ -64,7 +66,7 @@ module _ (t : Tables) (v : IsValid t) where
   contained_parts = plain-all (λ c. stands t c && is_owed t.setup t.segments c) t.containments 0 v.rules.containments
 
   pub all_stand : list_all (stands t) t.containments ≡ true
-  all_stand = all-weaker (λ c. stands t c && is_owed t.setup t.segments c) (stands t) (λ c h. (both (stands t c) (is_owed t.setup t.segments c) h).0) t.containments contained_parts
+  all_stand = all-weaker (λ c. stands t c && is_owed t.setup t.segments c) (stands t) (λ c h. (and_parts (stands t c) (is_owed t.setup t.segments c) h).0) t.containments contained_parts
 
   pub steady_of : IsSteady t.marks.segment t
   steady_of = record {
@@ -93,9 +95,9 @@ module _ (t : Tables) (v : IsValid t) where
     repair = all_some (is_sound_repair t.setup t.marks t.nodes t.segments) (RepairHolds t.marks.segment t.setup t.marks t.nodes t.segments) IsRepairWithin t.repair v.rules.repair v.bounds.repair
         (λ plan sound within. record { sound = sound; below = grind (arith, nat_tests, sound); within = within });
     containments = record {
-      owed = all-weaker (λ c. stands t c && is_owed t.setup t.segments c) (is_owed t.setup t.segments) (λ c h. (both (stands t c) (is_owed t.setup t.segments c) h).1) t.containments contained_parts;
+      owed = all-weaker (λ c. stands t c && is_owed t.setup t.segments c) (is_owed t.setup t.segments) (λ c h. (and_parts (stands t c) (is_owed t.setup t.segments c) h).1) t.containments contained_parts;
       below = all-weaker (stands t) (λ c. nat_lt c.segment.0 t.marks.segment)
-          (λ c h. below-found c.segment.0 (segment_at t.segments c.segment.0) refl (live-some (segment_at t.segments c.segment.0) (place_of c) (both (serves (node_at t.nodes c.node)) (has_live_piece (segment_at t.segments c.segment.0) (place_of c)) h).1)) t.containments all_stand;
+          (λ c h. below-found c.segment.0 (segment_at t.segments c.segment.0) refl (live-some (segment_at t.segments c.segment.0) (place_of c) (and_parts (serves (node_at t.nodes c.node)) (has_live_piece (segment_at t.segments c.segment.0) (place_of c)) h).1)) t.containments all_stand;
       rising = v.order.containments;
     };
     exit = all_some (is_sound_exit t.setup t.marks t.nodes t.segments) (ExitHolds t.marks.segment t.setup t.marks t.nodes t.segments) IsExitWithin t.exit v.rules.exit v.bounds.exit
@@ -143,9 +145,9 @@ valid_of from t stopped s paid stand = record {
     all-both : (rows : List Containment) → list_all (stands t) rows ≡ true → list_all (is_owed t.setup t.segments) rows ≡ true → list_all (λ c. stands t c && is_owed t.setup t.segments c) rows ≡ true
     all-both [] h k = refl
     all-both (c ∷ rows) h k =
-        let hs = both (stands t c) (list_all (stands t) rows) h in
-        let ks = both (is_owed t.setup t.segments c) (list_all (is_owed t.setup t.segments) rows) k in
-        and_of _ _ (and_of _ _ hs.0 ks.0) (all-both rows hs.1 ks.1)
+        let hs = and_parts (stands t c) (list_all (stands t) rows) h in
+        let ks = and_parts (is_owed t.setup t.segments c) (list_all (is_owed t.setup t.segments) rows) k in
+        and_from _ _ (and_from _ _ hs.0 ks.0) (all-both rows hs.1 ks.1)
 
 -- the containments that are left are steady
 steady_left : (from : ℕ) (t : Tables) (s : IsSteady from t) → IsSteady from (record t { containments = filter (stands t) t.containments })

@@ -1,4 +1,4 @@
--- The containment rule: after every step, a containment whose footing is gone is gone too.
+-- The containment rule: after every step, a containment whose node doesn't serve or whose piece is gone is gone too.
 use Rattle.std.specs.Prelude.{◌==◌, ◌&&◌, Bool, false, not, List, [], ◌∷◌, ◌++◌, map, filter, Option, Some, None}
 use Rattle.std.specs.List.{list_any}
 use Rattle.sat_base.specs.declared.records.At.{At}
@@ -50,7 +50,7 @@ fallen t = filter (λ containment. not (stands t containment)) t.containments
 abbrev pub release : Containment → RecChange
 release containment = changes.Remove (keys.Containment containment.node)
 
--- changes, and then the removal of the containments that they leave without a footing. Where nothing changes, nothing is removed
+-- changes, and then the removal of the containments that they leave without a node that serves or without their piece. Where nothing changes, nothing is removed
 abbrev pub with_releases : Tables → List RecChange → List RecChange
 with_releases t [] = []
 with_releases t (first ∷ rest) = (first ∷ rest) ++ map release (fallen (all_changed t (first ∷ rest)))

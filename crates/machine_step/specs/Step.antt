@@ -10,6 +10,9 @@ use Rattle.machine_calls.specs.declared.asking.Asking.{Asking}
 use Rattle.machine_calls.specs.Replies.{is_request}
 use Rattle.machine_calls.specs.declared.call.Call.{Call}
 use Rattle.machine_calls.specs.declared.call.Call.TheVariants as calls
+use Rattle.machine_calls.specs.declared.task.Task.TheVariants as tasks
+use Rattle.machine_calls.specs.declared.wish.Wish.{Wish}
+use Rattle.machine_calls.specs.declared.wish.Wish.TheVariants as wishes
 use Rattle.machine_calls.specs.declared.reply.Reply.{Reply}
 use Rattle.machine_calls.specs.declared.reply.Reply.TheVariants as replies
 use Rattle.machine_calls.specs.declared.refusal.Refusal.TheVariants as refusals
@@ -52,30 +55,30 @@ operator = record { 0 = 0 }
 
 -- what comes of a call where the machine wasn't stopped
 abbrev pub case_of : Tables → Call → Outcome
-case_of t (calls.AddNode now request addr port free) = add_node t (asking t operator request now) addr port free
-case_of t (calls.AddCustomer now request) = add_customer t (asking t operator request now)
-case_of t (calls.Begin now customer request len words) = begin t (asking t customer request now) len words
-case_of t (calls.Commit now customer request segment indexes) = commit t (asking t customer request now) segment indexes
-case_of t (calls.Get now customer request segment) = get t (asking t customer request now) segment
-case_of t (calls.Delete now customer request segment) = delete t (asking t customer request now) segment
-case_of t (calls.Settle now node bytes) = settle t (risen t now) node bytes
-case_of t (calls.SetFree now node free) = set_free t (risen t now) node free
-case_of t (calls.Statement node month) = statement t node month
-case_of t (calls.PlanAudit now words) = plan_audit t (risen t now) words
-case_of t (calls.EndAudit now judged) = end_audit t (risen t now) judged
-case_of t (calls.PlanRecheck now) = plan_recheck t (risen t now)
-case_of t (calls.EndRecheck now plan checked) = end_recheck t (risen t now) plan checked
-case_of t (calls.PlanRepair now words) = plan_repair t (risen t now) words
-case_of t (calls.EndRepair now outcome) = end_repair t (risen t now) outcome
-case_of t (calls.TallyHour now) = tally_hour t (risen t now)
-case_of t (calls.CloseMonth now month) = close_month t (risen t now) month
-case_of t (calls.Exit now node) = exit t (risen t now) node
-case_of t (calls.PlanExit now words) = plan_exit t (risen t now) words
-case_of t (calls.EndExit now outcome) = end_exit t (risen t now) outcome
-case_of t (calls.SetRates now month rates) = set_rates t (risen t now) month rates
-case_of t calls.Stop = unchanged replies.Stopping
+case_of t (calls.Asked now words (wishes.AddNode request addr port free)) = add_node t (asking t operator request now) addr port free
+case_of t (calls.Asked now words (wishes.AddCustomer request)) = add_customer t (asking t operator request now)
+case_of t (calls.Asked now words (wishes.Begin customer request len)) = begin t (asking t customer request now) len words
+case_of t (calls.Asked now words (wishes.Commit customer request segment indexes)) = commit t (asking t customer request now) segment indexes
+case_of t (calls.Asked now words (wishes.Get customer request segment)) = get t (asking t customer request now) segment
+case_of t (calls.Asked now words (wishes.Delete customer request segment)) = delete t (asking t customer request now) segment
+case_of t (calls.Asked now words (wishes.Settle node bytes)) = settle t (risen t now) node bytes
+case_of t (calls.Asked now words (wishes.SetFree node free)) = set_free t (risen t now) node free
+case_of t (calls.Asked now words (wishes.Statement node month)) = statement t node month
+case_of t (calls.Own now (tasks.PlanAudit words)) = plan_audit t (risen t now) words
+case_of t (calls.Own now (tasks.EndAudit judged)) = end_audit t (risen t now) judged
+case_of t (calls.Own now tasks.PlanRecheck) = plan_recheck t (risen t now)
+case_of t (calls.Own now (tasks.EndRecheck plan checked)) = end_recheck t (risen t now) plan checked
+case_of t (calls.Own now (tasks.PlanRepair words)) = plan_repair t (risen t now) words
+case_of t (calls.Own now (tasks.EndRepair outcome)) = end_repair t (risen t now) outcome
+case_of t (calls.Own now tasks.TallyHour) = tally_hour t (risen t now)
+case_of t (calls.Asked now words (wishes.CloseMonth month)) = close_month t (risen t now) month
+case_of t (calls.Asked now words (wishes.Exit node)) = exit t (risen t now) node
+case_of t (calls.Own now (tasks.PlanExit words)) = plan_exit t (risen t now) words
+case_of t (calls.Own now (tasks.EndExit outcome)) = end_exit t (risen t now) outcome
+case_of t (calls.Asked now words (wishes.SetRates month rates)) = set_rates t (risen t now) month rates
+case_of t (calls.Asked now words wishes.Stop) = unchanged replies.Stopping
 
--- and behind each step the containments whose footing is gone are gone
+-- and behind each step the containments whose node doesn't serve or whose piece is gone are gone
 abbrev pub step : Tables → Call → Outcome
 step t call = if t.stopped then refused refusals.Stopped else swept t (case_of t call)
 
@@ -92,47 +95,32 @@ tables_after t outcome =
 abbrev pub after : Tables → Call → Tables
 after t call = tables_after t (step t call)
 
--- the moment of a call, where it has one
+-- the moment of a call
 abbrev pub moment_of : Call → ℕ
-moment_of (calls.AddNode now request addr port free) = now
-moment_of (calls.AddCustomer now request) = now
-moment_of (calls.Begin now customer request len words) = now
-moment_of (calls.Commit now customer request segment indexes) = now
-moment_of (calls.Get now customer request segment) = now
-moment_of (calls.Delete now customer request segment) = now
-moment_of (calls.Settle now node bytes) = now
-moment_of (calls.SetFree now node free) = now
-moment_of (calls.Statement node month) = 0
-moment_of (calls.PlanAudit now words) = now
-moment_of (calls.EndAudit now judged) = now
-moment_of (calls.PlanRecheck now) = now
-moment_of (calls.EndRecheck now plan checked) = now
-moment_of (calls.PlanRepair now words) = now
-moment_of (calls.EndRepair now outcome) = now
-moment_of (calls.TallyHour now) = now
-moment_of (calls.CloseMonth now month) = now
-moment_of (calls.Exit now node) = now
-moment_of (calls.PlanExit now words) = now
-moment_of (calls.EndExit now outcome) = now
-moment_of (calls.SetRates now month rates) = now
-moment_of calls.Stop = 0
+moment_of (calls.Asked now words wish) = now
+moment_of (calls.Own now task) = now
+
+-- how many random words are drawn for what is asked
+abbrev pub words_for : Wish → ℕ
+words_for (wishes.Begin customer request len) = limits.WORDS
+words_for _ = 0
 
 -- a call has as many words as it takes
 abbrev pub HasItsWords : Call → Type 0
-HasItsWords (calls.Begin now customer request len words) = length words ≡ limits.WORDS
-HasItsWords (calls.PlanAudit now words) = length words ≡ 2
-HasItsWords (calls.PlanRepair now words) = length words ≡ limits.WORDS
-HasItsWords (calls.PlanExit now words) = length words ≡ limits.WORDS
-HasItsWords _ = Unit {0}
+HasItsWords (calls.Asked now words wish) = length words ≡ words_for wish
+HasItsWords (calls.Own now (tasks.PlanAudit words)) = length words ≡ 2
+HasItsWords (calls.Own now (tasks.PlanRepair words)) = length words ≡ limits.WORDS
+HasItsWords (calls.Own now (tasks.PlanExit words)) = length words ≡ limits.WORDS
+HasItsWords (calls.Own now _) = Unit {0}
 
 -- an order that is presented is of bytes
 abbrev pub HasBytes : Call → Type 0
-HasBytes (calls.Settle now node bytes) = (i : ℕ) → slice_index_or bytes i 0 < 256
+HasBytes (calls.Asked now words (wishes.Settle node bytes)) = (i : ℕ) → slice_index_or bytes i 0 < 256
 HasBytes _ = Unit {0}
 
 -- rates and their month are ones that a tariff may have
 abbrev pub HasTariff : Call → Type 0
-HasTariff (calls.SetRates now month rates) = IsTariffWithin (record { from = month; rates = rates })
+HasTariff (calls.Asked now words (wishes.SetRates month rates)) = IsTariffWithin (record { from = month; rates = rates })
 HasTariff _ = Unit {0}
 
 -- what a call is to be by itself
@@ -156,9 +144,9 @@ IsMendedBy setup (repairs.Unmended unmended) = Unit {0}
 
 -- what was judged or mended was so by the store's scheme
 abbrev pub IsByScheme : Setup → Call → Type 0
-IsByScheme setup (calls.EndAudit now judged) = IsSchemeOf setup judged.scheme
-IsByScheme setup (calls.EndRepair now outcome) = IsMendedBy setup outcome
-IsByScheme setup (calls.EndExit now outcome) = IsMendedBy setup outcome
+IsByScheme setup (calls.Own now (tasks.EndAudit judged)) = IsSchemeOf setup judged.scheme
+IsByScheme setup (calls.Own now (tasks.EndRepair outcome)) = IsMendedBy setup outcome
+IsByScheme setup (calls.Own now (tasks.EndExit outcome)) = IsMendedBy setup outcome
 IsByScheme setup _ = Unit {0}
 
 -- what a call is to be where it is asked of these tables

@@ -29,7 +29,7 @@ pub fn a_refusal_changes_nothing()
 {}
 
 /// Each step of what a caller requests is answered by a reply that the caller is told, and no step by one of a step that
-/// wasn't made: that the store failed, or that memory was wanting.
+/// wasn't made: that the store failed, or that memory ran out.
 pub fn each_step_is_answered()
     ensures told { (t : Tables) (call : Call) → is_request call ≡ true → is_told (step t call).reply ≡ true }
     ensures made { (t : Tables) (call : Call) → is_lost (step t call).reply ≡ false }

@@ -2,6 +2,7 @@
 use Rattle.std.proofs.Common.{◌≡◌, ℕ, Bool, true, false, not, ◌||◌, List, [], ◌∷◌, length, Option, Some, None, IfSome, refl, sym, ap, ◌∙◌}
 use Rattle.std.specs.Prelude.{filter, nat_le, is_some, if◌then◌else◌}
 use Rattle.std.specs.List.{list_all}
+use Rattle.std.proofs.lemmas.Bool.{and_parts}
 use Rattle.sat_base.specs.declared.ids.NodeId.{NodeId}
 use Rattle.sat_base.specs.declared.records.At.{At}
 use Rattle.node_registry.specs.declared.node.Node.{Node}
@@ -16,7 +17,7 @@ use Rattle.machine_step.specs.Calls.PlanRepair.{needs_repair, lesser, least_by, 
 use Rattle.machine_step.specs.Health.{healthy_count}
 use Rattle.machine_step.specs.Rules.{are_known, is_known, is_sound_segment}
 use Rattle.machine_step.proofs.GrowthLemmas.{fine}
-use Rattle.machine_step.proofs.RowLemmas.{both, capped-all}
+use Rattle.machine_step.proofs.RowLemmas.{capped-all}
 use Rattle.machine_store.specs.declared.store.Store.{Store}
 use Rattle.machine_store.specs.Store.{tables_of, is_lost, GoesByTables}
 
@@ -72,7 +73,7 @@ module _ (nodes : List Node) (gone : List NodeId) (knows : (id : NodeId) → ind
   each-healthy : (pieces : List At) → are_known nodes pieces ≡ true → Each (λ piece. not (indexed.is_gone gone piece.node) ≡ is_healthy nodes piece) pieces
   each-healthy [] known = tt
   each-healthy (piece ∷ rest) known =
-      let parts = both (is_known nodes piece.node) (are_known nodes rest) known in
+      let parts = and_parts (is_known nodes piece.node) (are_known nodes rest) known in
       (ap not (knows piece.node) ∙ counts (node_at nodes piece.node) parts.0, each-healthy rest parts.1)
 
   pub healthy-like : (segment : SegmentRecord) → are_known nodes segment.pieces ≡ true → indexed.healthy_count gone segment ≡ length (filter (is_healthy nodes) segment.pieces)
@@ -104,7 +105,7 @@ module _ (s : Store) (valid : IsValid (tables_of s)) (own : GoesByTables s) (fre
       → Each (λ segment. indexed.healthy_count s.segments.gone segment ≡ healthy_count (tables_of s) segment) rows
   each-count [] sound = tt
   each-count (segment ∷ rest) sound =
-      let parts = both (is_sound_segment (tables_of s).setup s.marks s.nodes.nodes s.customers.rows segment) (list_all (is_sound_segment (tables_of s).setup s.marks s.nodes.nodes s.customers.rows) rest) sound in
+      let parts = and_parts (is_sound_segment (tables_of s).setup s.marks s.nodes.nodes s.customers.rows segment) (list_all (is_sound_segment (tables_of s).setup s.marks s.nodes.nodes s.customers.rows) rest) sound in
       (count-like segment parts.0, each-count rest parts.1)
 
   each-need : (rows : List SegmentRecord) → Each (λ segment. indexed.healthy_count s.segments.gone segment ≡ healthy_count (tables_of s) segment) rows

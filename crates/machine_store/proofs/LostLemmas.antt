@@ -1,9 +1,9 @@
 -- The index of segments knows the nodes whose pieces don't count.
-use Rattle.std.proofs.Common.{◌≡◌, ℕ, suc, ◌<◌, Bool, true, false, not, ◌&&◌, ◌||◌, List, [], ◌∷◌, Some, None, refl, sym, ap, subst, ◌∙◌, arith}
+use Rattle.std.proofs.Common.{◌≡◌, ℕ, suc, Bool, true, false, not, ◌&&◌, ◌||◌, List, [], ◌∷◌, Some, None, refl, sym, ap, subst, ◌∙◌, arith}
 use Rattle.std.specs.Prelude.{◌==◌, if◌then◌else◌, filter, map}
 use Rattle.std.proofs.lemmas.Bool.Decides.{nat_tests}
+use Rattle.std.proofs.lemmas.Bool.{false_from_ne_true}
 use Rattle.sat_base.specs.declared.ids.NodeId.{NodeId}
-use Rattle.rows.specs.Rows.{row_at}
 use Rattle.rows.specs.Slots.{with_row}
 use Rattle.rows.proofs.Found.{row_at-with_row}
 use Rattle.node_registry.specs.declared.node.Node.{Node}
@@ -14,6 +14,7 @@ use Rattle.segment_index.specs.Indexed.{Indexed, IsPlaced as IsSegmentPlaced}
 use Rattle.segment_index.specs.Segments.{is_gone}
 use Rattle.segment_index.proofs.Nodes.{gone_same}
 use Rattle.machine_store.specs.Store.{is_lost, lost_ids, KnowsLost, StaysLost}
+use Rattle.node_registry.proofs.Numbered.{none_below}
 
 -- an index with the same nodes knows as much
 pub knows-same : (nodes : List Node) (old new : Indexed) → new.gone ≡ old.gone → new.pending ≡ old.pending → KnowsLost nodes old → KnowsLost nodes new
@@ -25,14 +26,10 @@ knows-counted nodes old new same knows id = same id ∙ knows id
 
 -- ---- the nodes of a table whose pieces don't count
 
-none-below : (rows : List Node) (k id : ℕ) → CountsFrom k rows → id < k → row_at node_rank rows id ≡ None
-none-below [] k id counts lt = refl
-none-below (first ∷ rest) k id counts lt = grind (arith, nat_tests, counts.0, lt, none-below rest (suc k) id counts.1)
-
 pub lost-among : (nodes : List Node) (k : ℕ) → CountsFrom k nodes → (id : NodeId) → is_gone (lost_ids nodes) id ≡ is_lost (node_at nodes id)
 lost-among [] k counts id = refl
 lost-among (first ∷ rest) k counts id =
-    let none : first.id.0 ≡ id.0 → node_at rest id ≡ None = λ e. none-below rest (suc k) id.0 counts.1 (omega (arith, e, counts.0)) in
+    let none : first.id.0 ≡ id.0 → node_at rest id ≡ None = λ e. none_below rest (suc k) id.0 counts.1 (omega (arith, e, counts.0)) in
     go (is_counted first.status) refl none (lost-among rest (suc k) counts.1 id)
   where
     go : (b : Bool) → is_counted first.status ≡ b → (first.id.0 ≡ id.0 → node_at rest id ≡ None) → is_gone (lost_ids rest) id ≡ is_lost (node_at rest id)
@@ -56,10 +53,6 @@ pub placed-beside : (old new : Indexed) → new ≡ record old { pending = new.p
 placed-beside old new same segment placed =
     subst (λ (t : Indexed). IsSegmentPlaced t segment) (sym same) (record { low = placed.low; row = placed.row; live = placed.live; nodes = placed.nodes; need = placed.need })
 
-never : (b : Bool) → (b ≡ true → ⊥) → b ≡ false
-never true h = absurd (h refl)
-never false h = refl
-
 -- a node was put
 module _ (nodes : List Node) (node : Node) (old new : Indexed) (knows : KnowsLost nodes old) (gone : new.gone ≡ old.gone) where
   -- its pieces don't count
@@ -77,7 +70,7 @@ module _ (nodes : List Node) (node : Node) (old new : Indexed) (knows : KnowsLos
       → (is_gone new.gone id || is_gone new.pending id) ≡ is_lost (if b then Some node else node_at nodes id)
   kept-at id true is pending stays counts =
       let same : node.id.0 ≡ id.0 = grind (arith, nat_tests, is) in
-      let absent : is_gone old.gone id ≡ false = never (is_gone old.gone id) (λ h. let out = stays (gone_same old.gone id node.id h (sym same)) in absurd (cc (out, counts))) in
+      let absent : is_gone old.gone id ≡ false = false_from_ne_true (is_gone old.gone id) (λ h. let out = stays (gone_same old.gone id node.id h (sym same)) in absurd (cc (out, counts))) in
       rw (gone, pending, absent, counts) refl
   kept-at id false is pending stays counts = rw (gone, pending) (knows id)
 

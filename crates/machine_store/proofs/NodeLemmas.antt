@@ -6,16 +6,12 @@ use Rattle.rows.specs.Rows.{row_at, added, replaced}
 use Rattle.rows.specs.Slots.{with_row}
 use Rattle.node_registry.specs.declared.node.Node.{Node}
 use Rattle.node_registry.specs.Registry.{node_rank, CountsFrom}
-
--- a node of a smaller id replaces none
-replaced_none : (node : Node) (rows : List Node) (k : ℕ) → CountsFrom k rows → node.id.0 < k → replaced node_rank node rows ≡ rows
-replaced_none node [] k counts lt = refl
-replaced_none node (first ∷ rest) k counts lt = grind (arith, nat_tests, counts.0, lt, replaced_none node rest (suc k) counts.1)
+use Rattle.node_registry.proofs.Numbered.{none_replaced}
 
 pub with_row-there : (node : Node) (rows : List Node) (k : ℕ) → CountsFrom k rows → k ≤ node.id.0 → node.id.0 < k + length rows → with_row node_rank rows node ≡ replaced node_rank node rows
 with_row-there node [] k counts low high = absurd (omega arith)
 with_row-there node (first ∷ rest) k counts low high =
-    grind (arith, nat_tests, counts.0, low, high, replaced_none node rest (suc k) counts.1, with_row-there node rest (suc k) counts.1)
+    grind (arith, nat_tests, counts.0, low, high, none_replaced node rest (suc k) counts.1, with_row-there node rest (suc k) counts.1)
 
 pub with_row-next : (node : Node) (rows : List Node) (k : ℕ) → CountsFrom k rows → node.id.0 ≡ k + length rows → with_row node_rank rows node ≡ rows ++ node ∷ []
 with_row-next node [] k counts is = refl

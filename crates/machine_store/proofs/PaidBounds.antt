@@ -3,6 +3,7 @@ use Rattle.std.proofs.Common.{◌≡◌, ℕ, ◌+◌, ◌*◌, ◌/◌, ◌^◌
 use Rattle.std.specs.Prelude.{nat_lt, nat_le, All}
 use Rattle.std.proofs.Math.Nat.{mul-le-mul_left}
 use Rattle.std.proofs.lemmas.Bool.Decides.{nat_tests}
+use Rattle.std.proofs.lemmas.Bool.{and_parts}
 use Rattle.sat_base.specs.declared.limits.TheConstants as limits
 use Rattle.sat_base.specs.declared.settings.Marks.{Marks}
 use Rattle.sat_base.specs.declared.settings.Customer.{Customer}
@@ -31,7 +32,7 @@ use Rattle.machine_step.specs.Tables.{Setup, setup_of, max_len_of}
 use Rattle.machine_step.specs.Rules.{first_bad, is_known, are_sound_marks, is_sound_segment, breaks_segment, is_sound_settled, breaks_settled, is_sound_tally, breaks_tally}
 use Rattle.machine_step.proofs.GrowthLemmas.{fine}
 use Rattle.machine_step.proofs.MarkLemmas.{month-open, hour-most}
-use Rattle.machine_step.proofs.RowLemmas.{both, capped-all, capped-length}
+use Rattle.machine_step.proofs.RowLemmas.{capped-all, capped-length}
 use Rattle.pay_tables.specs.InStep.{IsShort}
 use Rattle.table_rules.specs.Statements.{IsLedgerOf}
 use Rattle.machine_store.specs.Groups.{ledger_with}
@@ -73,17 +74,17 @@ orders_unbroken setup marks nodes rows within rising none =
 module _ (setup : Setup) (marks : Marks) (nodes : List Node) (sound : are_sound_marks setup marks ≡ true) (time : marks.time < 2 ^ 36) where
   hour-early : (row : Tally) → is_sound_tally marks nodes row ≡ true → row.hour.0 * 3600 < 2 ^ 36
   hour-early row is =
-      let parts = both (is_known nodes row.node) _ is in
-      let hour = (both (nat_lt row.hour.0 marks.hour.0) _ parts.1).0 in
+      let parts = and_parts (is_known nodes row.node) _ is in
+      let hour = (and_parts (nat_lt row.hour.0 marks.hour.0) _ parts.1).0 in
       let early : row.hour.0 < marks.hour.0 = grind (arith, nat_tests, hour) in
       let most = hour-most setup marks marks.time (omega arith) sound in
       omega (arith, early, most, time)
 
   bytes-most : (row : Tally) → is_sound_tally marks nodes row ≡ true → row.bytes ≤ 2 ^ 44
   bytes-most row is =
-      let parts = both (is_known nodes row.node) _ is in
-      let more = both (nat_lt row.hour.0 marks.hour.0) _ parts.1 in
-      let bytes = (both (nat_le 1 row.bytes) (nat_le row.bytes (2 ^ 44)) more.1).1 in
+      let parts = and_parts (is_known nodes row.node) _ is in
+      let more = and_parts (nat_lt row.hour.0 marks.hour.0) _ parts.1 in
+      let bytes = (and_parts (nat_le 1 row.bytes) (nat_le row.bytes (2 ^ 44)) more.1).1 in
       grind (arith, nat_tests, bytes)
 
   pub hours_unbroken : (rows : List Tally) → IsSetupWithin setup → IsRising tally_rank rows → first_bad (breaks_tally setup marks nodes) 0 rows ≡ None → AreHours rows

@@ -3,6 +3,7 @@ use Rattle.std.proofs.Common.{◌≡◌, ℕ, ◌+◌, ◌^◌, ◌<◌, ◌≤�
 use Rattle.std.specs.Prelude.{if◌then◌else◌, ◌==◌, nat_lt, nat_le, filter}
 use Rattle.std.specs.List.{sum_by}
 use Rattle.std.proofs.lemmas.Bool.Decides.{nat_tests}
+use Rattle.std.proofs.lemmas.Bool.{and_parts}
 use Rattle.node_registry.specs.declared.node.Node.{Node}
 use Rattle.segment_core.specs.Record.{SegmentRecord, segment_rank}
 use Rattle.sat_base.specs.declared.records.At.{At}
@@ -17,7 +18,7 @@ use Rattle.machine_step.specs.PlanRules.{is_exited}
 use Rattle.machine_step.specs.Stored.{piece_bytes, lies_at, stored_bytes}
 use Rattle.machine_step.specs.Tables.{Setup, Tables, ledger_of}
 use Rattle.machine_step.proofs.Paid.{statements_of}
-use Rattle.machine_step.proofs.RowLemmas.{both, each-found}
+use Rattle.machine_step.proofs.RowLemmas.{each-found}
 use Rattle.pay_tables.specs.declared.tables.PayTables.{PayTables}
 use Rattle.pay_tables.specs.Amounts.{amount_at, live_bytes}
 use Rattle.pay_tables.specs.InStep.{IsInStep, IsShort}
@@ -35,8 +36,8 @@ months_closed t v = each-all (is_sound_statement (ledger_of t)) (λ s. s.month.0
   where
     early : (s : Statement) → is_sound_statement (ledger_of t) s ≡ true → s.month.0 < t.marks.month.0
     early s sound =
-        let closed = (both (is_closed (ledger_of t) s.month.0) _ sound).0 in
-        let before = (both (nat_le t.setup.first_month s.month.0) (nat_lt s.month.0 t.marks.month.0) closed).1 in
+        let closed = (and_parts (is_closed (ledger_of t) s.month.0) _ sound).0 in
+        let before = (and_parts (nat_le t.setup.first_month s.month.0) (nat_lt s.month.0 t.marks.month.0) closed).1 in
         grind (arith, nat_tests, before)
 
 -- ---- the bytes of a segment

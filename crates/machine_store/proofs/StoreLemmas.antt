@@ -9,8 +9,8 @@ use Rattle.segment_index.specs.Indexed.{Indexed, IsPlaced as IsSegmentPlaced}
 use Rattle.sat_base.specs.declared.ids.NodeId.{NodeId}
 use Rattle.machine_calls.specs.declared.change.RecChange.{RecChange}
 use Rattle.std.specs.List.{list_all}
+use Rattle.std.proofs.lemmas.Bool.{and_parts}
 use Rattle.machine_calls.specs.declared.change.RecChange.TheVariants as changes
-use Rattle.machine_step.proofs.RowLemmas.{both}
 use Rattle.machine_step.specs.Tables.{Tables}
 use Rattle.machine_store.specs.declared.store.Store.{Store}
 use Rattle.machine_store.specs.Store.{IsPlaceable, ArePlaceable, IsNodePlaced, StaysLost, IsPlaced, ArePlaced, spares}
@@ -29,7 +29,7 @@ placed-more s (d ∷ cs) c placed one = (placed.0, placed-more s cs c placed.1 o
 pub placed-spared : (s t : Store) (first : RecChange) (cs : List RecChange) → ((c : RecChange) → spares first c ≡ true → IsPlaced s c → IsPlaced t c) → list_all (spares first) cs ≡ true → ArePlaced s cs → ArePlaced t cs
 placed-spared s t first [] keeps spared placed = tt
 placed-spared s t first (c ∷ cs) keeps spared placed =
-    let parts = both (spares first c) (list_all (spares first) cs) spared in
+    let parts = and_parts (spares first c) (list_all (spares first) cs) spared in
     (keeps c parts.0 placed.0, placed-spared s t first cs keeps parts.1 placed.1)
 
 -- the last of a list is the first of its reverse

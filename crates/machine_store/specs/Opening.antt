@@ -90,7 +90,7 @@ AreTablesWith _ _ parts t = ⊥
 abbrev pub AreTablesOf : Parts0 → Tables → Type 0
 AreTablesOf parts t = AreTablesWith parts.settings.items parts.marks.items parts t
 
--- an error names what is broken, or memory is wanting
+-- an error names what is broken, or memory runs out
 abbrev pub Names : CoreErr → Broken → Type 0
 Names (errs.Rule rule kind id) b = broken rule kind id ≡ b
 Names errs.NoMemory b = Unit {0}

@@ -24,7 +24,7 @@ pub enum CoreErr {
     /// The least table rule that is broken, and the first record that breaks it: the byte of its kind, and the bytes
     /// of its id.
     Rule { rule: u8, kind: u8, id: Bytes },
-    /// Memory for the tables is wanting.
+    /// There is no memory for the tables.
     NoMemory,
 }
 

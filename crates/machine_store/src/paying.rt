@@ -32,7 +32,7 @@ use settlement::SettledRow;
 use tally_payout::{Statement, Tally};
 
 // The hour of the last moment.
-const LAST_HOUR: u64 = ((1 << 36) - 1) / 3600;
+const LAST_TIMED_HOUR: u64 = ((1 << 36) - 1) / 3600;
 
 // Makes room for a segment.
 pub(crate) fn place_segment(store: &mut Store, segment: &Segment) -> Result<(), NoMemory>
@@ -224,7 +224,7 @@ fn release_tally(pay: &mut PayTables, tally: &Tally)
     ensures row { tally.now.hour.0 * 3600 < 2 ^ 36 → IsFreed tally_rank pay.old.tallies pay.new.tallies (tally_rank tally.now) }
     ensures sum { tally.now.hour.0 * 3600 < 2 ^ 36 → IsFreed open_rank pay.old.sums pay.new.sums (month_place (month_of_hour tally.now.hour.0) tally.now.node.0) }
 {
-    if tally.hour.0 <= LAST_HOUR {
+    if tally.hour.0 <= LAST_TIMED_HOUR {
         pay.release_tally(tally);
     }
 }

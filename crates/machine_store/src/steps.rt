@@ -31,11 +31,10 @@ use settlement::{Settled, SettledRow};
 fn place_node(nodes: &mut NodeTable, node: &Node) -> Result<(), NoMemory>
     requires { IsNodePlaceable nodes.old.nodes node.now }
     ensures nodes { nodes.new.nodes ≡ nodes.old.nodes }
-    ensures contained { nodes.new.contained ≡ nodes.old.contained }
     ensures placed { OnOk result (IsNodePlaced nodes.new node.now) }
     ensures keeps { (other : Node) → IsNodePlaced nodes.old other → IsNodePlaced nodes.new other }
 {
-    nodes.reserve(1, 0)
+    nodes.reserve(1)
 }
 
 // Makes room for a settled row.
@@ -53,7 +52,6 @@ pub(crate) fn place_row(settled: &mut Settled, row: &SettledRow) -> Result<(), N
 fn put_node(nodes: &mut NodeTable, node: Node)
     requires { IsNodePlaced nodes.old node }
     ensures nodes { nodes.new.nodes ≡ with_row node_rank nodes.old.nodes node }
-    ensures contained { nodes.new.contained ≡ nodes.old.contained }
     ensures keeps { (other : Node) → IsNodePlaced nodes.old other → IsNodePlaced nodes.new other }
 {
     let _nodes = nodes.nodes();
@@ -74,7 +72,7 @@ pub(crate) fn put_row(settled: &mut Settled, row: SettledRow)
 }
 
 /// Counts the pieces at the nodes that stopped serving as lost. The tables stay as they are, and room that was made for
-/// changes is void. Its error is want of memory, which leaves some of the nodes to be counted.
+/// changes is void. It fails only where memory runs out, which leaves some of the nodes to be counted.
 pub fn refresh(store: &mut Store) -> Result<(), NoMemory>
     requires { GoesByTables store.old }
     ensures tables { tables_of store.new ≡ tables_of store.old }

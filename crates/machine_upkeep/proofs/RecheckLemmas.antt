@@ -2,6 +2,7 @@
 use Rattle.std.proofs.Common.{◌≡◌, ◌≤◌, Bool, true, false, Option, Some, None, arith}
 use Rattle.std.specs.Prelude.{if◌then◌else◌, nat_le}
 use Rattle.std.proofs.lemmas.Bool.Decides.{nat_tests}
+use Rattle.std.proofs.lemmas.Bool.{and_parts}
 use Rattle.sat_base.specs.Ranks.{containment_rank}
 use Rattle.sat_base.specs.declared.records.Containment.{Containment}
 use Rattle.node_registry.specs.Registry.{contained_at}
@@ -10,7 +11,7 @@ use Rattle.machine_step.specs.Bounds.{IsValid}
 use Rattle.machine_step.specs.Calls.EndRecheck.{is_as_planned, only, still_owed}
 use Rattle.machine_step.specs.PlanRules.{is_owed, has_stripe}
 use Rattle.machine_step.specs.Tables.{Tables, segment_at}
-use Rattle.machine_step.proofs.RowLemmas.{all-found, both}
+use Rattle.machine_step.proofs.RowLemmas.{all-found}
 use Rattle.machine_step.proofs.Validity.{steady_of}
 
 only-found : (test : Containment → Bool) (found : Option Containment) (row : Containment) → only test found ≡ Some row → found ≡ Some row
@@ -25,5 +26,5 @@ pub few-tries : (t : Tables) (v : IsValid t) (plan : RecheckPlan) (row : Contain
 few-tries t v plan row is =
     let there = only-found (is_as_planned plan) (contained_at t.containments plan.node) row is in
     let owes = all-found containment_rank (is_owed t.setup t.segments) t.containments plan.node.0 row (steady_of t v).containments.owed there in
-    let few = (both (nat_le row.tries 2) (has_stripe t.setup (segment_at t.segments row.segment.0) row.stripe) owes).0 in
+    let few = (and_parts (nat_le row.tries 2) (has_stripe t.setup (segment_at t.segments row.segment.0) row.stripe) owes).0 in
     grind (arith, nat_tests, few)

@@ -1,8 +1,8 @@
 -- The sizes of segments that are found.
-use Rattle.std.proofs.Common.{◌≡◌, ℕ, ◌*◌, ◌/◌, ◌%◌, ◌≤◌, ◌^◌, Bool, true, false, not, length, Some, refl, arith}
+use Rattle.std.proofs.Common.{◌≡◌, ℕ, ◌%◌, ◌≤◌, ◌^◌, false, length, Some, arith}
 use Rattle.std.specs.Prelude.{filter}
-use Rattle.std.proofs.Math.Nat.{mul-le-mul_left}
 use Rattle.std.proofs.lemmas.Bool.Decides.{nat_tests}
+use Rattle.std.proofs.lemmas.Bool.{not-true}
 use Rattle.sat_base.specs.declared.ids.NodeId.{NodeId}
 use Rattle.segment_core.specs.Record.{SegmentRecord, segment_rank}
 use Rattle.placement.proofs.Picks.{Got, got-kept}
@@ -11,22 +11,12 @@ use Rattle.machine_step.specs.Calls.PlanExit.{is_movable}
 use Rattle.machine_step.specs.Calls.PlanRepair.{needs_repair, to_repair}
 use Rattle.machine_step.specs.Containment.{is_live}
 use Rattle.machine_step.specs.Health.{first_of, healthy_count, live_segments, picked}
-use Rattle.machine_step.specs.Tables.{Setup, Tables, is_no_size}
+use Rattle.machine_step.specs.Tables.{Tables, is_no_size}
 use Rattle.machine_step.proofs.Calls.PlanExit.{first-got}
 use Rattle.machine_step.proofs.Calls.PlanRepair.{least-got}
 use Rattle.machine_step.proofs.Fits.{fine_found}
 use Rattle.machine_step.proofs.RowLemmas.{rising-got}
-
-size-within : (setup : Setup) (len : ℕ) → 1 ≤ setup.share → setup.k ≤ 128 → is_no_size setup len ≡ false → len ≤ 2 ^ 40
-size-within setup len some few size =
-    let piece : setup.share * (4194304 / setup.share) ≤ 4194304 = omega arith in
-    let all : setup.k * (setup.share * (4194304 / setup.share)) ≤ setup.k * 4194304 = mul-le-mul_left setup.k piece in
-    let most : len ≤ 4194304 / setup.share * setup.k * setup.share = grind (arith, nat_tests, size) in
-    omega (arith, all, most, few)
-
-not-true : (b : Bool) → not b ≡ true → b ≡ false
-not-true true h = cc
-not-true false h = refl
+use Rattle.machine_step.proofs.SegmentSizes.{size-most}
 
 -- at least one byte, and at most 2^40
 pub record IsSized (len : ℕ) : Type 0 where
@@ -39,7 +29,7 @@ module _ (t : Tables) (v : IsValid t) where
       let scheme = v.bounds.setup.scheme in
       record {
         some = grind (arith, nat_tests, size);
-        few = size-within t.setup len scheme.some_bytes (omega (arith, scheme.repairs_in_time, scheme.wants_more, scheme.tries_enough, scheme.few_pieces)) size;
+        few = size-most t.setup len scheme.some_bytes (omega (arith, scheme.repairs_in_time, scheme.wants_more, scheme.tries_enough, scheme.few_pieces)) size;
       }
 
   got-sized : (found : SegmentRecord) → Got t.segments found → IsSized found.len

@@ -1,13 +1,14 @@
 -- The sums of a month and the pots stay far below the bounds that a close asks.
-use Rattle.std.proofs.Common.{◌≡◌, ℕ, suc, ◌+◌, ◌-◌, ◌*◌, ◌^◌, ◌<◌, ◌≤◌, Bool, true, false, List, [], ◌∷◌, ◌++◌, length, Option, Some, None, refl, sym, ap, subst, ◌∙◌, append_assoc, arith}
+use Rattle.std.proofs.Common.{◌≡◌, ℕ, suc, ◌+◌, ◌-◌, ◌*◌, ◌^◌, ◌<◌, ◌≤◌, Bool, true, false, List, [], ◌∷◌, ◌++◌, length, refl, sym, ap, subst, ◌∙◌, append_assoc, arith}
 use Rattle.std.proofs.lemmas.List.{append-nil}
 use Rattle.node_registry.specs.Registry.{node_at}
-use Rattle.std.specs.Prelude.{All, if◌then◌else◌, ◌==◌, ◌&&◌, nat_lt, nat_le, filter}
+use Rattle.std.specs.Prelude.{All, if◌then◌else◌, ◌==◌, ◌&&◌, nat_lt, filter}
 use Rattle.std.specs.List.{sum_by}
 use Rattle.std.proofs.Math.Nat.{mul-le-mul_right}
 use Rattle.std.proofs.lemmas.List.Elements.{All-nil, All-cons}
 use Rattle.std.proofs.lemmas.List.Sums.{sum_by-cons}
 use Rattle.std.proofs.lemmas.Bool.Decides.{nat_tests}
+use Rattle.std.proofs.lemmas.Bool.{and_parts}
 use Rattle.sat_base.specs.declared.ids.NodeId.{NodeId}
 use Rattle.sat_base.specs.declared.rates.Tariff.{Tariff}
 use Rattle.order_limits.specs.declared.limit.Action.{Action}
@@ -24,7 +25,7 @@ use Rattle.tally_payout.specs.Ranks.{statement_rank}
 use Rattle.month_pay.specs.Ledger.{Ledger, is_get, is_audit, is_repair, moved, settled_in, tallied_in, sums_of, pot_before}
 use Rattle.month_pay.specs.Rule.{follows, is_closed, is_sound_statement}
 use Rattle.month_pay.specs.Keeping.{RuleHolds, of_node, AreFit}
-use Rattle.month_pay.proofs.ListFacts.{both, each-all}
+use Rattle.month_pay.proofs.ListFacts.{each-all}
 use Rattle.month_pay.proofs.Conserved.{is_stated, is_whole, balanced, before}
 
 pub each-filter : {X : Type 0} (P : X → Type 0) (test : X → Bool) (xs : List X) → Each P xs → Each P (filter test xs)
@@ -35,7 +36,7 @@ each-filter P test (x ∷ xs) each = go (test x) (each-filter P test xs each.1)
     go true later = (each.0, later)
     go false later = later
 
-length-filter : {X : Type 0} (test : X → Bool) (xs : List X) → length (filter test xs) ≤ length xs
+pub length-filter : {X : Type 0} (test : X → Bool) (xs : List X) → length (filter test xs) ≤ length xs
 length-filter test [] = omega arith
 length-filter test (x ∷ xs) = go (test x) (length-filter test xs)
   where
@@ -135,7 +136,7 @@ module _ (l : Ledger) (fit : AreFit l) where
   small xs (s ∷ ys) zs whole rising each sound =
       let moved_on : (xs ++ s ∷ []) ++ (ys ++ zs) ≡ xs ++ s ∷ (ys ++ zs) = append_assoc xs (s ∷ []) (ys ++ zs) in
       let moved_off : (xs ++ s ∷ []) ++ ys ≡ xs ++ s ∷ ys = append_assoc xs (s ∷ []) ys in
-      let closed = (both (is_closed l s.month.0) (follows l s (node_at l.nodes s.node)) sound.0).0 in
+      let closed = (and_parts (is_closed l s.month.0) (follows l s (node_at l.nodes s.node)) sound.0).0 in
       let begun : l.first ≤ s.month.0 = grind (arith, nat_tests, closed) in
       let b = balanced l s (is_stated l s sound.0) in
       let held = held-most s sound.0 in
@@ -157,7 +158,7 @@ module _ (l : Ledger) (fit : AreFit l) where
       bounded : (ys : List Statement) → Each SmallPot ys → Each (λ s. is_sound_statement l s ≡ true) ys → Each (λ s. s.pot < 2 ^ 98) ys
       bounded [] each sound = tt
       bounded (s ∷ ys) each sound =
-          let closed = (both (is_closed l s.month.0) (follows l s (node_at l.nodes s.node)) sound.0).0 in
+          let closed = (and_parts (is_closed l s.month.0) (follows l s (node_at l.nodes s.node)) sound.0).0 in
           let over : s.month.0 < l.next = grind (arith, nat_tests, closed) in
           (omega (arith, each.0.1, few-most (s.month.0 + 1 - l.first) 26135 (2 ^ 83) (omega (arith, fit.last, fit.begins, over))), bounded ys each.1 sound.1)
 

@@ -4,7 +4,7 @@ use Rattle.std.specs.Prelude.{if◌then◌else◌, ◌==◌, ◌||◌, ◌&&◌,
 use Rattle.std.specs.List.{list_all}
 use Rattle.std.proofs.lemmas.List.{append-nil}
 use Rattle.std.proofs.lemmas.List.Elements.{filter-append}
-use Rattle.std.proofs.lemmas.Bool.{cases_lt}
+use Rattle.std.proofs.lemmas.Bool.{cases_lt, and_parts, and_from}
 use Rattle.std.proofs.lemmas.Bool.Decides.{nat_tests}
 use Rattle.sat_base.specs.declared.ids.NodeId.{NodeId}
 use Rattle.rows.specs.Rows.{row_at, AllAbove, IsRising, Each}
@@ -19,7 +19,7 @@ use Rattle.month_pay.specs.Ledger.{Ledger, has_joined, stated, closing, pot_befo
 use Rattle.month_pay.specs.Rule.{same_statement, follows, is_closed, is_sound_statement}
 use Rattle.month_pay.specs.Keeping.{Covers, RuleHolds, AreNodes}
 use Rattle.rows.proofs.Found.{rank-found}
-use Rattle.month_pay.proofs.ListFacts.{both, and_of, list_all-append, all-weaker, each-weaker, row_at-append, row_at-behind, rising-append, each-found, each-at, each-all}
+use Rattle.month_pay.proofs.ListFacts.{list_all-append, all-weaker, each-weaker, row_at-append, row_at-behind, rising-append, each-found, each-at, each-all}
 
 -- ---- one statement
 
@@ -46,7 +46,7 @@ unfolding follows
 follows-stated l s month node gone n allowed joined is =
     let late : has_joined s.month.0 node ≡ true = rw n.within joined in
     let same : stated l s.month.0 node (s.percent == 100) ≡ s = ap (λ (m : ℕ). stated l m node (s.percent == 100)) n.within ∙ (ap (λ (g : Bool). stated l month node g) n.all_held ∙ is) in
-    and_of _ _ late (and_of _ _ (held (s.percent == 100) (λ h. allowed (sym n.all_held ∙ h))) (ap (same_statement s) same ∙ same-self s))
+    and_from _ _ late (and_from _ _ (held (s.percent == 100) (λ h. allowed (sym n.all_held ∙ h))) (ap (same_statement s) same ∙ same-self s))
   where
     held : (b : Bool) → (b ≡ true → is_disqualified node.status ≡ true) → (not b || is_disqualified node.status) ≡ true
     held true h = h refl
@@ -137,17 +137,17 @@ module _ (l : Ledger) (nodes : AreNodes l.nodes) (begun : l.first ≤ l.next) wh
   unfolding follows
   follows-closed s None lt h = cc
   follows-closed s (Some node) lt h =
-      let first = both _ _ h in
-      let second = both _ _ first.1 in
-      and_of _ _ first.0 (and_of _ _ second.0 (ap (same_statement s) (stated-closed s.month.0 node (s.percent == 100) (omega arith)) ∙ second.1))
+      let first = and_parts _ _ h in
+      let second = and_parts _ _ first.1 in
+      and_from _ _ first.0 (and_from _ _ second.0 (ap (same_statement s) (stated-closed s.month.0 node (s.percent == 100) (omega arith)) ∙ second.1))
 
   old-closed : (s : Statement) → is_sound_statement l s ≡ true → is_sound_statement (closed l) s ≡ true
   old-closed s h =
-      let parts = both (is_closed l s.month.0) (follows l s (node_at l.nodes s.node)) h in
+      let parts = and_parts (is_closed l s.month.0) (follows l s (node_at l.nodes s.node)) h in
       let within = parts.0 in
       let lt : s.month.0 < l.next = grind (arith, nat_tests, within) in
       let later : is_closed (closed l) s.month.0 ≡ true = grind (arith, nat_tests, within) in
-      and_of _ _ later (follows-closed s (node_at l.nodes s.node) lt parts.1)
+      and_from _ _ later (follows-closed s (node_at l.nodes s.node) lt parts.1)
 
   new-closed : (node : Node) → node_at l.nodes node.id ≡ Some node → has_joined l.next node ≡ true → is_sound_statement (closed l) (closing l l.next node) ≡ true
   new-closed node at joined =
@@ -156,7 +156,7 @@ module _ (l : Ledger) (nodes : AreNodes l.nodes) (begun : l.first ≤ l.next) wh
       let found : node_at l.nodes (closing l l.next node).node ≡ Some node = ap (λ (id : NodeId). node_at l.nodes id) n.whose ∙ at in
       let month : (closing l l.next node).month.0 ≡ l.next = n.within in
       let within : is_closed (closed l) (closing l l.next node).month.0 ≡ true = rw month (grind (arith, nat_tests, begun)) in
-      and_of _ _ within (ap (follows (closed l) (closing l l.next node)) found
+      and_from _ _ within (ap (follows (closed l) (closing l l.next node)) found
       ∙ follows-stated (closed l) (closing l l.next node) l.next node gone n (λ h. h) joined (stated-closed l.next node gone (omega arith)))
 
   all-closed : (rows : List Node) → Each (λ node. node_at l.nodes node.id ≡ Some node) rows → list_all (is_sound_statement (closed l)) (rows_of l l.next rows) ≡ true
@@ -165,14 +165,14 @@ module _ (l : Ledger) (nodes : AreNodes l.nodes) (begun : l.first ≤ l.next) wh
     where
       go : (b : Bool) → has_joined l.next node ≡ b → list_all (is_sound_statement (closed l)) (rows_of l l.next rest) ≡ true
           → list_all (is_sound_statement (closed l)) (map (closing l l.next) (if b then node ∷ filter (has_joined l.next) rest else filter (has_joined l.next) rest)) ≡ true
-      go true joined later = and_of _ _ (new-closed node each.0 joined) later
+      go true joined later = and_from _ _ (new-closed node each.0 joined) later
       go false joined later = later
 
   -- an old statement is of an earlier month, and of a known node
   old-low : (s : Statement) → is_sound_statement l s ≡ true → (s.month.0 < l.next) × (s.node.0 < 2 ^ 32)
   unfolding follows
   old-low s h =
-      let parts = both (is_closed l s.month.0) (follows l s (node_at l.nodes s.node)) h in
+      let parts = and_parts (is_closed l s.month.0) (follows l s (node_at l.nodes s.node)) h in
       let within = parts.0 in
       let lt : s.month.0 < l.next = grind (arith, nat_tests, within) in
       (lt, go (node_at l.nodes s.node) refl parts.1)

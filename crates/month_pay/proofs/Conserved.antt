@@ -6,6 +6,7 @@ use Rattle.std.proofs.lemmas.List.{append-nil}
 use Rattle.std.proofs.lemmas.List.Elements.{filter-append}
 use Rattle.std.proofs.lemmas.List.Sums.{sum_by-cons}
 use Rattle.std.proofs.lemmas.Bool.Decides.{nat_tests}
+use Rattle.std.proofs.lemmas.Bool.{and_parts}
 use Rattle.sat_base.specs.declared.ids.NodeId.{NodeId}
 use Rattle.rows.specs.Rows.{AllAbove, IsRising, Each}
 use Rattle.node_registry.specs.declared.node.Node.{Node}
@@ -22,7 +23,7 @@ use Rattle.month_pay.specs.Ledger.{Ledger, has_left, sums_of, stated, pot_before
 use Rattle.month_pay.specs.Rule.{same_sums, same_parts, same_statement, follows, is_closed, is_sound_statement}
 use Rattle.month_pay.specs.Keeping.{RuleHolds, IsStated, IsWhole, of_node}
 use Rattle.rows.proofs.Found.{rank-found}
-use Rattle.month_pay.proofs.ListFacts.{both, each-all}
+use Rattle.month_pay.proofs.ListFacts.{each-all}
 
 -- ---- statements that are the same
 
@@ -31,9 +32,9 @@ equal_of a b h = grind (arith, nat_tests, h)
 
 sums-equal : (a b : Sums) → same_sums a b ≡ true → a ≡ b
 sums-equal a b h =
-    let p = both (a.get == b.get) _ h in
-    let q = both (a.audit == b.audit) _ p.1 in
-    let r = both (a.repair == b.repair) (a.byte_hours == b.byte_hours) q.1 in
+    let p = and_parts (a.get == b.get) _ h in
+    let q = and_parts (a.audit == b.audit) _ p.1 in
+    let r = and_parts (a.repair == b.repair) (a.byte_hours == b.byte_hours) q.1 in
     go _ _ _ _ _ _ _ _ (equal_of _ _ p.0) (equal_of _ _ q.0) (equal_of _ _ r.0) (equal_of _ _ r.1)
   where
     go : (a b c d e f g h : ℕ) → a ≡ e → b ≡ f → c ≡ g → d ≡ h → ◌≡◌ {A = Sums} (record { get = a; audit = b; repair = c; byte_hours = d }) (record { get = e; audit = f; repair = g; byte_hours = h })
@@ -41,10 +42,10 @@ sums-equal a b h =
 
 parts-equal : (a b : Parts) → same_parts a b ≡ true → a ≡ b
 parts-equal a b h =
-    let p = both (a.get == b.get) _ h in
-    let q = both (a.audit == b.audit) _ p.1 in
-    let r = both (a.repair == b.repair) _ q.1 in
-    let s = both (a.storage == b.storage) (a.gross == b.gross) r.1 in
+    let p = and_parts (a.get == b.get) _ h in
+    let q = and_parts (a.audit == b.audit) _ p.1 in
+    let r = and_parts (a.repair == b.repair) _ q.1 in
+    let s = and_parts (a.storage == b.storage) (a.gross == b.gross) r.1 in
     go _ _ _ _ _ _ _ _ _ _ (equal_of _ _ p.0) (equal_of _ _ q.0) (equal_of _ _ r.0) (equal_of _ _ s.0) (equal_of _ _ s.1)
   where
     go : (a b c d i e f g h j : ℕ) → a ≡ e → b ≡ f → c ≡ g → d ≡ h → i ≡ j → ◌≡◌ {A = Parts} (record { get = a; audit = b; repair = c; storage = d; gross = i }) (record { get = e; audit = f; repair = g; storage = h; gross = j })
@@ -53,15 +54,15 @@ parts-equal a b h =
 pub statement-equal : (a b : Statement) → same_statement a b ≡ true → a ≡ b
 unfolding same_statement
 statement-equal a b h =
-    let h1 = both (a.node.0 == b.node.0) _ h in
-    let h2 = both (a.month.0 == b.month.0) _ h1.1 in
-    let h3 = both (a.age == b.age) _ h2.1 in
-    let h4 = both (a.percent == b.percent) _ h3.1 in
-    let h5 = both (same_sums a.sums b.sums) _ h4.1 in
-    let h6 = both (same_parts a.parts b.parts) _ h5.1 in
-    let h7 = both (a.held == b.held) _ h6.1 in
-    let h8 = both (a.paid == b.paid) _ h7.1 in
-    let h9 = both (a.returned == b.returned) (a.pot == b.pot) h8.1 in
+    let h1 = and_parts (a.node.0 == b.node.0) _ h in
+    let h2 = and_parts (a.month.0 == b.month.0) _ h1.1 in
+    let h3 = and_parts (a.age == b.age) _ h2.1 in
+    let h4 = and_parts (a.percent == b.percent) _ h3.1 in
+    let h5 = and_parts (same_sums a.sums b.sums) _ h4.1 in
+    let h6 = and_parts (same_parts a.parts b.parts) _ h5.1 in
+    let h7 = and_parts (a.held == b.held) _ h6.1 in
+    let h8 = and_parts (a.paid == b.paid) _ h7.1 in
+    let h9 = and_parts (a.returned == b.returned) (a.pot == b.pot) h8.1 in
     go a.node.0 b.node.0 a.month.0 b.month.0 a.age b.age a.percent b.percent a.sums b.sums a.parts b.parts a.held b.held a.paid b.paid a.returned b.returned a.pot b.pot
     (equal_of _ _ h1.0) (equal_of _ _ h2.0) (equal_of _ _ h3.0) (equal_of _ _ h4.0) (sums-equal a.sums b.sums h5.0) (parts-equal a.parts b.parts h6.0) (equal_of _ _ h7.0) (equal_of _ _ h8.0) (equal_of _ _ h9.0) (equal_of _ _ h9.1)
   where
@@ -74,13 +75,13 @@ statement-equal a b h =
 
 pub is_stated : (l : Ledger) (s : Statement) → is_sound_statement l s ≡ true → IsStated l s
 unfolding follows
-is_stated l s sound = go (node_at l.nodes s.node) refl (both (is_closed l s.month.0) (follows l s (node_at l.nodes s.node)) sound).1
+is_stated l s sound = go (node_at l.nodes s.node) refl (and_parts (is_closed l s.month.0) (follows l s (node_at l.nodes s.node)) sound).1
   where
     go : (found : Option Node) → node_at l.nodes s.node ≡ found → follows l s found ≡ true → IsStated l s
     go None at h = absurd cc
     go (Some node) at h =
-        let first = both _ _ h in
-        let second = both _ _ first.1 in
+        let first = and_parts _ _ h in
+        let second = and_parts _ _ first.1 in
         record { node = node; known = at; states = statement-equal s (stated l s.month.0 node (s.percent == 100)) second.1 }
 
 stated-balances : (l : Ledger) (month : ℕ) (node : Node) (gone : Bool) → Balances (pot_before l.statements node.id month) (stated l month node gone)
@@ -91,7 +92,7 @@ pub stated-parts : (l : Ledger) (month : ℕ) (node : Node) (gone : Bool) → (s
 unfolding stated statement_of
 stated-parts l month node gone = refl
 
-same-id : (a b : NodeId) → a.0 ≡ b.0 → a ≡ b
+pub same-id : (a b : NodeId) → a.0 ≡ b.0 → a ≡ b
 same-id a b h = go a.0 b.0 h
   where
     go : (n m : ℕ) → n ≡ m → ◌≡◌ {A = NodeId} (record { 0 = n }) (record { 0 = m })

@@ -1,20 +1,12 @@
 -- Facts of lists of rows.
-use Rattle.std.proofs.Common.{◌≡◌, ℕ, ◌<◌, ◌≤◌, Bool, true, false, List, [], ◌∷◌, ◌++◌, Some, None, is_some, refl, sym, ap, subst, ◌∙◌, append_assoc, arith}
-use Rattle.std.specs.Prelude.{if◌then◌else◌, ◌==◌, ◌&&◌, filter}
+use Rattle.std.proofs.Common.{◌≡◌, ℕ, ◌≤◌, Bool, true, false, List, [], ◌∷◌, ◌++◌, Some, None, is_some, refl, sym, ap, subst, ◌∙◌, append_assoc, arith}
+use Rattle.std.specs.Prelude.{if◌then◌else◌, ◌==◌, filter}
 use Rattle.std.specs.List.{list_all, list_any}
 use Rattle.std.proofs.lemmas.Bool.Decides.{nat_tests}
+use Rattle.std.proofs.lemmas.Bool.{and_parts}
 use Rattle.rows.specs.Rows.{Each, row_at, AllAbove, IsRising}
 use Rattle.rows.specs.Slots.{with_row}
 use Rattle.rows.proofs.RisingLemmas.{with_row-end}
-
--- both sides of an and
-pub both : (a b : Bool) → (a && b) ≡ true → (a ≡ true) × (b ≡ true)
-both true b h = (refl, h)
-both false b h = cc
-
-pub and_of : (a b : Bool) → a ≡ true → b ≡ true → (a && b) ≡ true
-and_of true b p q = q
-and_of false b p q = cc
 
 pub none_joined : {X : Type 0} (xs ys : List X) → xs ++ ys ≡ [] → (xs ≡ []) × (ys ≡ [])
 none_joined [] ys h = (refl, h)
@@ -97,7 +89,7 @@ module _ {R : Type 0} (rank : R → ℕ) where
 -- what a test tells of each row
 pub each-all : {X : Type 0} (good : X → Bool) (P : X → Type 0) → ((x : X) → good x ≡ true → P x) → (xs : List X) → list_all good xs ≡ true → Each P xs
 each-all good P so [] all = tt
-each-all good P so (x ∷ xs) all = let parts = both (good x) (list_all good xs) all in (so x parts.0, each-all good P so xs parts.1)
+each-all good P so (x ∷ xs) all = let parts = and_parts (good x) (list_all good xs) all in (so x parts.0, each-all good P so xs parts.1)
 
 module _ {R : Type 0} (rank : R → ℕ) where
   pub each-with_row : (P : R → Type 0) (rows : List R) (row : R) → Each P rows → P row → Each P (with_row rank rows row)

@@ -3,6 +3,7 @@ use Rattle.std.proofs.Common.{◌≡◌, ℕ, ◌<◌, Bool, true, false, not, L
 use Rattle.std.specs.Prelude.{◌==◌, ◌||◌}
 use Rattle.std.specs.List.{list_all}
 use Rattle.std.proofs.lemmas.Bool.Decides.{nat_tests}
+use Rattle.std.proofs.lemmas.Bool.{and_parts, and_from}
 use Rattle.node_registry.specs.declared.node.Node.{Node}
 use Rattle.node_registry.specs.Registry.{node_at}
 use Rattle.tally_payout.specs.declared.amounts.Statement.{Statement}
@@ -10,7 +11,7 @@ use Rattle.node_registry.specs.Standing.{is_disqualified}
 use Rattle.month_pay.specs.Ledger.{Ledger, has_joined, stated}
 use Rattle.month_pay.specs.Rule.{same_statement, follows, is_sound_statement}
 use Rattle.month_pay.specs.Keeping.{Covers, RuleHolds, IsSameNode, StaysAs, SamePay}
-use Rattle.month_pay.proofs.ListFacts.{both, and_of, all-weaker}
+use Rattle.month_pay.proofs.ListFacts.{all-weaker}
 
 -- a test that weakens
 either : (a b c : Bool) → (b ≡ true → c ≡ true) → (not a || b) ≡ true → (not a || c) ≡ true
@@ -37,18 +38,18 @@ module _ (old new : Ledger) (same : SamePay old new) where
   follows-same s (Some node) None lt stays h = absurd (stays node refl)
   follows-same s (Some node) (Some node') lt stays h =
       let is = stays node refl in
-      let first = both _ _ h in
-      let second = both _ _ first.1 in
-      and_of _ _ (joined-same s.month.0 node node' is first.0)
-      (and_of _ _ (either (s.percent == 100) (is_disqualified node.status) (is_disqualified node'.status) is.gone second.0)
+      let first = and_parts _ _ h in
+      let second = and_parts _ _ first.1 in
+      and_from _ _ (joined-same s.month.0 node node' is first.0)
+      (and_from _ _ (either (s.percent == 100) (is_disqualified node.status) (is_disqualified node'.status) is.gone second.0)
       (ap (same_statement s) (stated-same s.month.0 node node' (s.percent == 100) lt is) ∙ second.1))
 
   sound-same : (s : Statement) → is_sound_statement old s ≡ true → is_sound_statement new s ≡ true
   sound-same s h =
-      let parts = both _ _ h in
+      let parts = and_parts _ _ h in
       let closed = parts.0 in
       let lt : s.month.0 < old.next = grind (arith, nat_tests, closed) in
-      and_of _ _ (rw (same.first, same.next) closed) (follows-same s (node_at old.nodes s.node) (node_at new.nodes s.node) lt (λ node at. same.nodes s.node node at) parts.1)
+      and_from _ _ (rw (same.first, same.next) closed) (follows-same s (node_at old.nodes s.node) (node_at new.nodes s.node) lt (λ node at. same.nodes s.node node at) parts.1)
 
   pub same_keeps : (cap : ℕ) → RuleHolds cap old → RuleHolds cap new
   same_keeps cap h = record {

@@ -4,6 +4,7 @@ use Rattle.std.specs.Prelude.{if◌then◌else◌, ◌==◌, ◌||◌, ◌&&◌,
 use Rattle.std.specs.List.{list_any}
 use Rattle.std.proofs.lemmas.Bool.Decides.{nat_tests}
 use Rattle.std.proofs.lemmas.List.Elements.{filter-append}
+use Rattle.std.proofs.lemmas.Bool.{and_parts}
 use Rattle.rows.specs.Rows.{row_at, AllAbove, IsRising, Each}
 use Rattle.node_registry.specs.declared.node.Node.{Node}
 use Rattle.node_registry.specs.Registry.{node_rank, node_at}
@@ -15,7 +16,7 @@ use Rattle.month_pay.specs.Keeping.{AreNodes}
 use Rattle.rows.specs.Least.{least}
 use Rattle.month_pay.specs.Walk.{due_in, due_from, is_good, walk}
 use Rattle.rows.proofs.Found.{rank-found}
-use Rattle.month_pay.proofs.ListFacts.{both, each-weaker, rising-append}
+use Rattle.month_pay.proofs.ListFacts.{each-weaker, rising-append}
 use Rattle.month_pay.proofs.LeastLemmas.{In, From, least-of, from-append, in-front, in-back, in-first, from-above, none-in}
 use Rattle.month_pay.proofs.Amounts.{each-filter}
 
@@ -267,7 +268,7 @@ module _ (cap : ℕ) (l : Ledger) (nodes : AreNodes l.nodes) where
   sound-due : (s : Statement) → is_sound_statement l s ≡ true → In (statement_rank s) (due_from l.nodes (l.next - l.first) l.first)
   unfolding follows
   sound-due s sound =
-      let parts = both (is_closed l s.month.0) (follows l s (node_at l.nodes s.node)) sound in
+      let parts = and_parts (is_closed l s.month.0) (follows l s (node_at l.nodes s.node)) sound in
       let within = parts.0 in
       let le : l.first ≤ s.month.0 = grind (arith, nat_tests, within) in
       let lt : s.month.0 < l.next = grind (arith, nat_tests, within) in
@@ -276,7 +277,7 @@ module _ (cap : ℕ) (l : Ledger) (nodes : AreNodes l.nodes) where
       go : l.first ≤ s.month.0 → s.month.0 < l.next → (found : Option Node) → node_at l.nodes s.node ≡ found → follows l s found ≡ true → In (statement_rank s) (due_from l.nodes (l.next - l.first) l.first)
       go le lt None at h = cc
       go le lt (Some node) at h =
-          let joined : has_joined s.month.0 node ≡ true = (both (has_joined s.month.0 node) _ h).0 in
+          let joined : has_joined s.month.0 node ≡ true = (and_parts (has_joined s.month.0 node) _ h).0 in
           let same : node.id.0 ≡ s.node.0 = rank-found node_rank l.nodes s.node.0 node at in
           subst (λ (k : ℕ). In (month_place s.month.0 k) (due_from l.nodes (l.next - l.first) l.first)) same (in-all node s.month.0 (l.next - l.first) l.first s.node.0 at joined le (omega arith))
 

@@ -58,7 +58,7 @@ each-more {X} P xs i x each got here = let next : suc i ≡ i + 1 = omega arith 
     go (y ∷ ys) zero each got = let same : x ≡ y = cc in (subst P same here, tt)
     go (y ∷ ys) (suc i) each got = (each.0, go ys i each.1 got)
 
-take-most : {X : Type 0} (i : ℕ) (xs : List X) → length (take i xs) ≤ length xs
+pub take-most : {X : Type 0} (i : ℕ) (xs : List X) → length (take i xs) ≤ length xs
 take-most zero xs = omega arith
 take-most (suc i) [] = omega arith
 take-most (suc i) (x ∷ xs) = omega (arith, take-most i xs)

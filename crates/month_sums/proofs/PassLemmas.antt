@@ -1,5 +1,5 @@
 -- One step of the pass.
-use Rattle.std.proofs.Common.{◌≡◌, ℕ, zero, suc, ◌+◌, ◌-◌, ◌^◌, ◌<◌, Bool, true, false, not, List, [], ◌∷◌, ◌++◌, length, get_or, take, drop, min, Option, Some, None, refl, sym, ap, subst, ◌∙◌, append_assoc, arith}
+use Rattle.std.proofs.Common.{◌≡◌, ℕ, zero, suc, ◌+◌, ◌-◌, ◌^◌, ◌<◌, Bool, true, false, not, List, [], ◌∷◌, ◌++◌, length, take, drop, min, Option, Some, None, refl, sym, ap, subst, ◌∙◌, append_assoc, arith}
 use Rattle.std.specs.Prelude.{if◌then◌else◌, ◌==◌, ◌||◌, ◌&&◌, nat_lt, nat_le, slice_get, slice_set, filter}
 use Rattle.std.proofs.lemmas.List.{append-nil}
 use Rattle.std.proofs.lemmas.List.Elements.{filter-append}
@@ -21,13 +21,13 @@ use Rattle.month_pay.specs.Walk.{is_good, walk}
 use Rattle.rows.specs.Rows.{IsRising, Each}
 use Rattle.month_pay.specs.Keeping.{of_node}
 use Rattle.month_pay.proofs.ListFacts.{each-at}
-use Rattle.month_pay.proofs.Conserved.{before, last_pot-behind}
+use Rattle.month_pay.proofs.Conserved.{before, last_pot-behind, same-id}
 use Rattle.month_pay.proofs.Amounts.{fronts_fit}
 use Rattle.month_sums.specs.declared.opening.Found.{Found}
 use Rattle.month_sums.specs.declared.opening.Found.TheVariants as found
 use Rattle.month_sums.specs.Opening.{stated_as, GoByNode, IsNext, LooksOn, GoByMonth, Front, noted, pots_after}
 use Rattle.month_sums.proofs.Ready.{each-got, above-each}
-use Rattle.month_sums.proofs.Weights.{one_place, same_id}
+use Rattle.month_sums.proofs.Weights.{one_place}
 
 module _ (l : Ledger) (month : ℕ) (node : Node) (sums : Sums) (pot : ℕ) (left : List Left) (rates : Rates) (go : GoByNode l month node sums pot left rates) where
   stated-by : (s : Statement) → stated_as s month node sums pot left rates ≡ stated l month node (s.percent == 100)
@@ -51,7 +51,7 @@ module _ (l : Ledger) (month : ℕ) (node : Node) (sums : Sums) (pot : ℕ) (lef
   pub good-by : (cap i : ℕ) (s : Statement) → statement_rank s ≡ month_place month node.id.0 → s.node.0 < 2 ^ 32 → node.id.0 < 2 ^ 32 → is_good cap l i s ≡ (nat_lt i cap && follows l s (Some node))
   good-by cap i s is low low' =
       let parts = one_place s.month.0 month s.node.0 node.id.0 low low' is in
-      let own : node_at l.nodes s.node ≡ Some node = ap (λ (id : NodeId). node_at l.nodes id) (same_id s.node node.id parts.1) ∙ go.known in
+      let own : node_at l.nodes s.node ≡ Some node = ap (λ (id : NodeId). node_at l.nodes id) (same-id s.node node.id parts.1) ∙ go.known in
       let first = go.first in
       let closed = go.closed in
       let within : is_closed l s.month.0 ≡ true = let in_month = parts.0 in grind (arith, nat_tests, in_month, first, closed) in
@@ -170,7 +170,7 @@ module _ (l : Ledger) (month : ℕ) (nodes : List Node) (rows : List Statement) 
         closed = go.closed;
         known = each-got (λ (x : Node). node_at l.nodes x.id ≡ Some x) l.nodes j node (each-at node_rank l.nodes go.numbered.rising) at_l;
         joined = joined;
-        sums_are = sums_own (sums_of l.settled l.tallies s.node s.month.0) (go.sums_are i s got) ∙ (ap (λ (n : NodeId). sums_of l.settled l.tallies n s.month.0) (same_id s.node node.id parts.1) ∙ ap (λ (m : ℕ). sums_of l.settled l.tallies node.id m) parts.0);
+        sums_are = sums_own (sums_of l.settled l.tallies s.node s.month.0) (go.sums_are i s got) ∙ (ap (λ (n : NodeId). sums_of l.settled l.tallies n s.month.0) (same-id s.node node.id parts.1) ∙ ap (λ (m : ℕ). sums_of l.settled l.tallies node.id m) parts.0);
         pot_is = some-is pot _ (slice_get pots j) has (front.left_by j node at) ∙ sym (pot-by i s node got parts.1 parts.0);
         left_is = go.left_is;
         rates_are = go.rates_are;
@@ -277,11 +277,6 @@ module _ (l : Ledger) (month : ℕ) (nodes : List Node) (rows : List Statement) 
       let same : nat_lt i i ≡ false = grind (arith, nat_tests) in
       let stay : pots_after pots j rows i i ≡ pots = ap (λ (b : Bool). if b then noted pots j (slice_get rows i) else pots) same in
       subst (λ (m : ℕ). Front l nodes rows m (pots_after pots j rows i m)) (sym h) (subst (λ (ps : List ℕ). Front l nodes rows i ps) (sym stay) front)
-
-pub got-index : {X : Type 0} (xs : List X) (j : ℕ) (d : X) → j < length xs → slice_get xs j ≡ Some (get_or xs j d)
-got-index [] j d lt = absurd (omega arith)
-got-index (x ∷ xs) zero d lt = refl
-got-index (x ∷ xs) (suc j) d lt = got-index xs j d (omega arith)
 
 pub walk-some : (good : ℕ → Statement → Bool) (i : ℕ) (rows : List Statement) (s : Statement) → slice_get rows i ≡ Some s → walk good i [] (drop i rows) ≡ Some (statement_rank s)
 walk-some good i rows s got = ap (λ (xs : List Statement). walk good i [] xs) (rest-of rows i s got)

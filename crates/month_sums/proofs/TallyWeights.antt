@@ -1,5 +1,5 @@
 -- A tally more adds its bytes to the sum of its node and month.
-use Rattle.std.proofs.Common.{◌≡◌, ℕ, ◌+◌, ◌*◌, ◌^◌, ◌<◌, ◌≤◌, Bool, true, false, List, [], ◌∷◌, Option, Some, None, refl, sym, ap, subst, ◌∙◌, arith}
+use Rattle.std.proofs.Common.{◌≡◌, ℕ, ◌+◌, ◌^◌, ◌<◌, Bool, true, false, List, [], ◌∷◌, Option, Some, None, refl, sym, ap, subst, ◌∙◌, arith}
 use Rattle.std.specs.Prelude.{if◌then◌else◌, ◌==◌, ◌&&◌, filter}
 use Rattle.std.specs.List.{sum_by}
 use Rattle.std.proofs.lemmas.List.Sums.{sum_by-cons}
@@ -17,7 +17,8 @@ use Rattle.month_pay.specs.Ledger.{tallied_in, sums_of}
 use Rattle.rows.proofs.Found.{row_at-with_row}
 use Rattle.month_sums.specs.declared.sums.OpenSums.{OpenSums}
 use Rattle.month_sums.specs.Open.{open_rank, sums_in, sums_at, with_bytes, GoByRows}
-use Rattle.month_sums.proofs.Weights.{sum_by-with_row, one_place, same_id}
+use Rattle.month_sums.proofs.Weights.{sum_by-with_row, one_place}
+use Rattle.month_pay.proofs.Conserved.{same-id}
 
 weighed : {X : Type 0} (f : X → ℕ) (q : X → Bool) (xs : List X) → sum_by f (filter q xs) ≡ sum_by (λ x. if q x then f x else 0) xs
 weighed f q [] = refl
@@ -72,7 +73,7 @@ tally_keeps rows new row settled tallies statements low is_month is_node is none
     go true e true f =
         let in_month : month_of_hour row.hour.0 ≡ month = grind (arith, nat_tests, e) in
         let own : row.node.0 ≡ node.0 = grind (arith, nat_tests, e) in
-        let owner = same_id row.node node own in
+        let owner = same-id row.node node own in
         let before : sums_at rows (month_of_hour row.hour.0) row.node ≡ sums_of settled tallies node month = ap (λ (m : ℕ). sums_at rows m row.node) in_month ∙ (ap (λ (n : NodeId). sums_at rows month n) owner ∙ go_by node month lt still) in
         is ∙ (ap (λ (sums : Sums). with_bytes sums row.bytes) before ∙ sym (sums-more settled tallies row node month none e))
     go true e false f =

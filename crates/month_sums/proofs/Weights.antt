@@ -20,6 +20,7 @@ use Rattle.month_pay.specs.Ledger.{is_get, is_audit, is_repair, settled_in, move
 use Rattle.rows.proofs.Found.{row_at-with_row}
 use Rattle.month_sums.specs.declared.sums.OpenSums.{OpenSums}
 use Rattle.month_sums.specs.Open.{open_rank, sums_in, sums_at, more_of, GoByRows}
+use Rattle.month_pay.proofs.Conserved.{same-id}
 
 module _ {X : Type 0} (f : X → ℕ) where
   weighed : (p q : X → Bool) (xs : List X) → sum_by f (filter p (filter q xs)) ≡ sum_by (λ x. if q x && p x then f x else 0) xs
@@ -97,12 +98,6 @@ sums-other settled tallies row node month none out =
 pub one_place : (m n node other : ℕ) → node < 2 ^ 32 → other < 2 ^ 32 → month_place m node ≡ month_place n other → (m ≡ n) × (node ≡ other)
 one_place m n node other lt lt' h = (omega arith, omega arith)
 
-pub same_id : (a b : NodeId) → a.0 ≡ b.0 → a ≡ b
-same_id a b h = go a.0 b.0 h
-  where
-    go : (n m : ℕ) → n ≡ m → ◌≡◌ {A = NodeId} (record { 0 = n }) (record { 0 = m })
-    go n m e = cc
-
 -- the sums stay in step with the rows where an order settles
 pub settled_keeps : (rows : List OpenSums) (new : OpenSums) (row : SettledRow) (settled : List SettledRow) (tallies : List Tally) (statements : List Statement) → row.node.0 < 2 ^ 32 → new.month.0 ≡ month_at row.at → new.node ≡ row.node
     → new.sums ≡ more_of (sums_at rows (month_at row.at) row.node) row.action row.amount → row_at key settled (key row) ≡ None
@@ -119,7 +114,7 @@ settled_keeps rows new row settled tallies statements low is_month is_node is no
     go true e true f =
         let in_month : month_at row.at ≡ month = grind (arith, nat_tests, e) in
         let own : row.node.0 ≡ node.0 = grind (arith, nat_tests, e) in
-        let owner = same_id row.node node own in
+        let owner = same-id row.node node own in
         let before : sums_at rows (month_at row.at) row.node ≡ sums_of settled tallies node month = ap (λ (m : ℕ). sums_at rows m row.node) in_month ∙ (ap (λ (n : NodeId). sums_at rows month n) owner ∙ go_by node month lt still) in
         is ∙ (ap (λ (sums : Sums). more_of sums row.action row.amount) before ∙ sym (sums-more settled tallies row node month none e))
     go true e false f =

@@ -1,10 +1,11 @@
 -- The verdict on answers of which few are altered against a named segment.
-use Rattle.std.proofs.Common.{◌≡◌, ℕ, ◌+◌, ◌*◌, ◌<◌, ◌≤◌, ◌&&◌, Bool, true, false, List, length, refl, sym, ap, ◌∙◌, subst, arith}
+use Rattle.std.proofs.Common.{◌≡◌, ℕ, ◌*◌, ◌<◌, ◌≤◌, ◌&&◌, true, List, length, ap, ◌∙◌, arith}
 use Rattle.std.specs.Prelude.{All}
 use Rattle.std.specs.Str.{bytes_eq}
 use Rattle.std.proofs.Math.Bool.{Bool-set}
 use Rattle.std.proofs.Math.Logic.{∥∥₁_elim}
 use Rattle.std.proofs.lemmas.Slice.Eq.{bytes_eq-Decides}
+use Rattle.std.proofs.lemmas.Bool.{and_parts}
 use Rattle.sat_base.specs.Scheme.{stripe_count}
 use Rattle.bw_decode.specs.Altered.{indexes_of}
 use Rattle.bw_decode.specs.Near.{IsNear}
@@ -17,10 +18,6 @@ use Rattle.machine_step.specs.Calls.EndAudit.{blamed_of, is_clear}
 use Rattle.named_segments.specs.Audits.{IsAnsweredWell, audited_stripe}
 use Rattle.named_segments.proofs.Counted.{answers_below}
 use Rattle.named_segments.proofs.Stripes.{stripe_bytes, stripe_long}
-
-both_true : (a b : Bool) → (a && b) ≡ true → (a ≡ true) × (b ≡ true)
-both_true true b h = (refl, h)
-both_true false b h = absurd (cc)
 
 module _ (judged : Judged) (named : List ℕ) (bytes : All (λ byte. byte < 256) named) (within : judged.plan.stripe < stripe_count judged.scheme.k judged.scheme.share (length named))
     (well : IsAnsweredWell judged named) where
@@ -57,6 +54,6 @@ module _ (judged : Judged) (named : List ℕ) (bytes : All (λ byte. byte < 256)
 
   pub blames_just : (is_clear judged.verdict ≡ true) × (blamed_of judged.verdict ≡ expected)
   blames_just =
-      let both = both_true (is_clear judged.verdict) (bytes_eq (blamed_of judged.verdict) expected)
+      let both = and_parts (is_clear judged.verdict) (bytes_eq (blamed_of judged.verdict) expected)
       (∥∥₁_elim judged.exact (Bool-set (is_clear judged.verdict && bytes_eq (blamed_of judged.verdict) expected) true) (finds judged.verdict)) in
       (both.0, (bytes_eq-Decides (blamed_of judged.verdict) expected).0 both.1)

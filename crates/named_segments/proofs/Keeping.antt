@@ -1,27 +1,24 @@
 -- The next version of a mended segment, against its named bytes.
-use Rattle.std.proofs.Common.{◌≡◌, ◌⊎◌, inl, inr, ℕ, zero, suc, ◌+◌, ◌<◌, ◌≤◌, ◌&&◌, ◌||◌, ◌==◌, Bool, true, false, not, List, [], ◌∷◌, length, get_or, take, Option, Some, None, refl, sym, ap, ◌∙◌, subst, arith}
-use Rattle.std.specs.Prelude.{All, filter, map, if◌then◌else◌, nat_lt}
-use Rattle.std.specs.List.{AllZip, list_all, list_any}
-use Rattle.std.proofs.lemmas.Bool.{eqb-true}
+use Rattle.std.proofs.Common.{◌≡◌, inl, inr, ℕ, zero, suc, ◌<◌, ◌≤◌, ◌&&◌, ◌||◌, ◌==◌, Bool, true, false, not, List, [], ◌∷◌, length, get_or, Some, refl, sym, ap, ◌∙◌, subst, arith}
+use Rattle.std.specs.Prelude.{All, filter, map, if◌then◌else◌}
+use Rattle.std.specs.List.{AllZip, list_all}
+use Rattle.std.proofs.lemmas.Bool.{eqb-true, or_cases, and_parts}
 use Rattle.std.proofs.lemmas.Bool.Decides.{nat_tests}
-use Rattle.std.proofs.lemmas.List.{get_or_default, length-map}
+use Rattle.std.proofs.lemmas.List.{length-map}
 use Rattle.std.proofs.lemmas.List.Elements.{All-nil, All-cons, All-head, All-tail}
 use Rattle.sat_base.specs.declared.items.Share.{Share}
-use Rattle.sat_base.specs.declared.ids.NodeId.{NodeId}
 use Rattle.sat_base.specs.declared.nodes.Held.{Held}
 use Rattle.sat_base.specs.declared.records.At.{At}
 use Rattle.sat_base.specs.declared.requests.Place.{Place}
 use Rattle.sat_base.specs.Nodes.{held_at}
 use Rattle.rs_stripe.specs.Segment.{piece_of}
 use Rattle.bw_decode.specs.Near.{Rises}
-use Rattle.segment_core.specs.Record.{SegmentRecord}
 use Rattle.segment_core.specs.Commit.{is_among}
 use Rattle.repair_core.specs.declared.outcome.Mended.{Mended}
-use Rattle.repair_core.specs.declared.plan.RepairPlan.{RepairPlan}
 use Rattle.repair_core.specs.declared.rebuilt.Remade.{Remade}
 use Rattle.repair_core.specs.Indexes.{has_index, place_indexes}
 use Rattle.repair_core.specs.Rebuilt.{fresh_piece}
-use Rattle.repair_core.proofs.Rising.{kept_are, member_has, all_among}
+use Rattle.repair_core.proofs.Rising.{kept_are, member_has, all_among, rises_head}
 use Rattle.machine_step.specs.Containment.{has_piece, same_place}
 use Rattle.machine_step.specs.Health.{are_among}
 use Rattle.machine_step.specs.Calls.PlanRepair.{has_index as has_index_at}
@@ -29,27 +26,18 @@ use Rattle.machine_step.specs.Mending.{is_kept, kept_sources, placed_targets}
 use Rattle.machine_step.proofs.IndexLemmas.{rising-by_index, rising-some}
 use Rattle.segment_core.specs.Places.{IsByIndex, index_of}
 use Rattle.askable_plans.proofs.Pieces.{rises_at}
-use Rattle.machine_step.specs.Tables.{Tables, segment_at}
+use Rattle.machine_step.specs.Tables.{Tables}
 use Rattle.machine_plans.specs.Ends.{IsMended}
 use Rattle.node_asks.specs.Asks.{at_of, pieces_of}
 use Rattle.node_asks.specs.Ending.{sound_of}
 use Rattle.node_asks.specs.Spreading.{HoldsFresh, IsSpread}
 use Rattle.node_asks.proofs.SourceLemmas.{all_pass, all_some, rises_some}
 use Rattle.node_asks.proofs.SpreadLemmas.{indexes_at, pieces-indexes}
-use Rattle.named_segments.specs.Repairs.{AreAt, HoldsPiece, IsHeld, IsWellMended, KeepsPieces, KeepsBytes, is_sound_piece}
-
--- two places that are the same
-place_same : (a b : At) → same_place a b ≡ true → a ≡ b
-place_same a b h =
-    let index : a.index ≡ b.index = grind (arith, nat_tests, h) in
-    let node : a.node.0 ≡ b.node.0 = grind (arith, nat_tests, h) in
-    λ i. record { index = index i; node = record { 0 = node i } }
+use Rattle.named_segments.specs.Repairs.{HoldsPiece, IsHeld, KeepsPieces, is_sound_piece}
+use Rattle.machine_step.proofs.SameLemmas.{same-place}
 
 rises_tail : (x : ℕ) (xs : List ℕ) → Rises (x ∷ xs) → Rises xs
 rises_tail x xs rises i j before within = rises (suc i) (suc j) (omega arith) (omega arith)
-
-rises_head : (x : ℕ) (xs : List ℕ) → Rises (x ∷ xs) → All (λ y. x < y) xs
-rises_head x xs rises k d within = rw (get_or_default xs k d 0 within) (rises 0 (suc k) (omega arith) (omega arith))
 
 -- what holds of the indexes holds of the pieces
 above_at : (xs : List At) (n k : ℕ) (d : At) → k < length xs → All (λ y. n < y) (place_indexes xs) → n < (get_or xs k d).index
@@ -68,7 +56,7 @@ of_list P [] piece all has = absurd (cc)
 of_list P (x ∷ xs) piece all has = go (same_place x piece) refl has (of_list P xs piece)
   where
     go : (b : Bool) → same_place x piece ≡ b → (b || has_piece xs piece) ≡ true → (All P xs → has_piece xs piece ≡ true → P piece) → P piece
-    go true same h later = subst P (place_same x piece same) (All-head P x xs all)
+    go true same h later = subst P (same-place x piece same) (All-head P x xs all)
     go false same h later = later (All-tail P x xs all) h
 
 among_has : (xs : List ℕ) (y : ℕ) → is_among xs y ≡ has_index xs y
@@ -110,9 +98,9 @@ unique_at (x ∷ xs) a b rises one two same = go (same_place x a) (same_place x 
 
     go : (p q : Bool) → same_place x a ≡ p → same_place x b ≡ q → (p || has_piece xs a) ≡ true → (q || has_piece xs b) ≡ true
         → (has_piece xs a ≡ true → has_piece xs b ≡ true → a.index ≡ b.index → a ≡ b) → a ≡ b
-    go true true p q one two rest = sym (place_same x a p) ∙ place_same x b q
-    go true false p q one two rest = let lt = later b two in let e = ap (λ (z : At). z.index) (place_same x a p) in absurd (omega (arith, lt, e, same))
-    go false true p q one two rest = let lt = later a one in let e = ap (λ (z : At). z.index) (place_same x b q) in absurd (omega (arith, lt, e, same))
+    go true true p q one two rest = sym (same-place x a p) ∙ same-place x b q
+    go true false p q one two rest = let lt = later b two in let e = ap (λ (z : At). z.index) (same-place x a p) in absurd (omega (arith, lt, e, same))
+    go false true p q one two rest = let lt = later a one in let e = ap (λ (z : At). z.index) (same-place x b q) in absurd (omega (arith, lt, e, same))
     go false false p q one two rest = rest one two same
 
 -- an index of a list is that of a piece of it
@@ -135,7 +123,7 @@ passes_in test (x ∷ xs) a has passes = go (same_place x a) (test x) refl refl 
   where
     go : (p q : Bool) → same_place x a ≡ p → test x ≡ q → (p || has_piece xs a) ≡ true → (has_piece xs a ≡ true → has_piece (filter test xs) a ≡ true) → has_piece (if q then x ∷ filter test xs else filter test xs) a ≡ true
     go true true same is h later = grind (arith, nat_tests, same)
-    go true false same is h later = let e = ap test (place_same x a same) in absurd (cc)
+    go true false same is h later = let e = ap test (same-place x a same) in absurd (cc)
     go false true same is h later = let rest = later h in grind (arith, nat_tests, rest)
     go false false same is h later = later h
 
@@ -149,7 +137,7 @@ filtered_in test (x ∷ xs) a has = go (test x) refl has (filtered_in test xs a)
     go true is h later = here (same_place x a) refl h
       where
         here : (p : Bool) → same_place x a ≡ p → (p || has_piece (filter test xs) a) ≡ true → (has_piece (x ∷ xs) a ≡ true) × (test a ≡ true)
-        here true same h = (grind (arith, nat_tests, same), ap test (sym (place_same x a same)) ∙ is)
+        here true same h = (grind (arith, nat_tests, same), ap test (sym (same-place x a same)) ∙ is)
         here false same h = let rest = later h in (grind (arith, rest.0), rest.1)
 
 among_all : (pieces places : List At) (a : At) → are_among pieces places ≡ true → has_piece places a ≡ true → has_piece pieces a ≡ true
@@ -157,7 +145,7 @@ among_all pieces [] a all has = absurd (cc)
 among_all pieces (x ∷ xs) a all has = go (same_place x a) refl has (among_all pieces xs a)
   where
     go : (p : Bool) → same_place x a ≡ p → (p || has_piece xs a) ≡ true → (are_among pieces xs ≡ true → has_piece xs a ≡ true → has_piece pieces a ≡ true) → has_piece pieces a ≡ true
-    go true same h later = ap (has_piece pieces) (sym (place_same x a same)) ∙ grind (arith, all)
+    go true same h later = ap (has_piece pieces) (sym (same-place x a same)) ∙ grind (arith, all)
     go false same h later = later (grind (arith, all)) h
 
 listed : (test : At → Bool) (xs : List At) (a : At) → list_all test xs ≡ true → has_piece xs a ≡ true → test a ≡ true
@@ -165,7 +153,7 @@ listed test [] a all has = absurd (cc)
 listed test (x ∷ xs) a all has = go (same_place x a) refl has (listed test xs a)
   where
     go : (p : Bool) → same_place x a ≡ p → (p || has_piece xs a) ≡ true → (list_all test xs ≡ true → has_piece xs a ≡ true → test a ≡ true) → test a ≡ true
-    go true same h later = ap test (sym (place_same x a same)) ∙ grind (arith, all)
+    go true same h later = ap test (sym (same-place x a same)) ∙ grind (arith, all)
     go false same h later = later (grind (arith, all)) h
 
 -- ---- the next version
@@ -175,14 +163,6 @@ pub record AreAnswered (mended : Mended) (answered : List ℕ) : Type 0 where
   pub rise : Rises answered
   pub of_sources : All (λ index. has_index (place_indexes mended.plan.sources) index ≡ true) answered
   pub apart : All (λ index. has_index mended.missing index ≡ false) answered
-
-either : (a b : Bool) → (a || b) ≡ true → (a ≡ true) ⊎ (b ≡ true)
-either true b h = inl refl
-either false b h = inr h
-
-both : (a b : Bool) → (a && b) ≡ true → (a ≡ true) × (b ≡ true)
-both true b h = (refl, h)
-both false b h = absurd (cc)
 
 module _ (mended : Mended) (answered : List ℕ) (sources_rise : Rises (place_indexes mended.plan.sources)) (are : AreAnswered mended answered) (t next : Tables) (made : IsMended t next mended) where
   abbrev sound : At → Bool
@@ -209,7 +189,7 @@ module _ (mended : Mended) (answered : List ℕ) (sources_rise : Rises (place_in
       let passes : is_kept mended source ≡ true = (λ j. not (blamed j) && not (missing j)) in
       let kept = passes_in (is_kept mended) mended.plan.sources source found.1 passes in
       let answers : has_index answered source.index ≡ true = ap (has_index answered) found.2 ∙ there in
-      elim (either (has_piece made.after.pieces source) (has_index_at (placed_targets mended) source.index)
+      elim (or_cases (has_piece made.after.pieces source) (has_index_at (placed_targets mended) source.index)
       (listed (λ one. has_piece made.after.pieces one || has_index_at (placed_targets mended) one.index) (kept_sources mended) source made.kept kept)) [
         | inl here ↦
             ap (has_index (place_indexes (filter sound made.after.pieces))) (sym found.2)
@@ -273,7 +253,7 @@ module _ (mended : Mended) (named : List ℕ) (before behind : List Held) (remad
   source_held : (piece : At) → has_piece (kept_sources mended) piece ≡ true → has_index (indexes_at still) piece.index ≡ true → HoldsPiece mended.scheme mended.plan named before (record { index = piece.index; node = piece.node; addr = 0; port = 0 })
   source_held piece has there =
       let parts = filtered_in (is_kept mended) mended.plan.sources piece has in
-      let kept = both (not (is_among mended.blamed piece.index)) (not (is_among mended.missing piece.index)) parts.1 in
+      let kept = and_parts (not (is_among mended.blamed piece.index)) (not (is_among mended.missing piece.index)) parts.1 in
       let right : has_index remade.blamed piece.index ≡ false
       = ap (λ (xs : List ℕ). has_index xs piece.index) (sym blamed_are) ∙ sym (among_has mended.blamed piece.index) ∙ not_so (is_among mended.blamed piece.index) kept.0 in
       let place = place_with IsStill still piece.index (λ k d within. (keeps.sources k d within, keeps.places k d within)) there in
@@ -290,10 +270,10 @@ module _ (mended : Mended) (named : List ℕ) (before behind : List Held) (remad
       not_so false h = refl
 
   pub each_held : (answered : List ℕ) → answered ≡ indexes_at still → (piece : At) → is_sound_piece mended answered piece ≡ true → IsHeld mended.scheme mended.plan named before behind piece
-  each_held answered are piece sound = elim (either (has_piece (placed_targets mended) piece) (has_piece (kept_sources mended) piece && has_index answered piece.index) sound) [
+  each_held answered are piece sound = elim (or_cases (has_piece (placed_targets mended) piece) (has_piece (kept_sources mended) piece && has_index answered piece.index) sound) [
     | inl placed ↦ inl (placed_held piece placed)
     | inr other ↦
-        let parts = both (has_piece (kept_sources mended) piece) (has_index answered piece.index) other in
+        let parts = and_parts (has_piece (kept_sources mended) piece) (has_index answered piece.index) other in
         let held = source_held piece parts.0 (ap (λ (xs : List ℕ). has_index xs piece.index) (sym are) ∙ parts.1) in
         inr (held.bytes, held.held, held.same)
   ]

@@ -1,6 +1,6 @@
 -- Members of lists that pass a test, and places that shared.
-use Rattle.std.proofs.Common.{◌≡◌, ℕ, ◌==◌, Bool, true, false, List, [], ◌∷◌, Option, Some, None, refl, ap, sym, ◌∙◌, arith}
-use Rattle.std.specs.Prelude.{All, filter, option_map, if◌then◌else◌}
+use Rattle.std.proofs.Common.{◌≡◌, ℕ, ◌==◌, Bool, true, false, List, [], ◌∷◌, refl, ap, sym, ◌∙◌, arith}
+use Rattle.std.specs.Prelude.{All, filter, if◌then◌else◌}
 use Rattle.std.proofs.lemmas.Bool.Decides.{nat_tests}
 use Rattle.std.proofs.lemmas.List.Elements.{All-nil, All-cons, All-head, All-tail}
 use Rattle.sat_base.specs.declared.nodes.Fetched.{Fetched}
@@ -23,11 +23,6 @@ fails_if test (x ∷ xs) y has none = go (x == y) (test x) refl refl none (fails
     go true false same passes none later = let one : x ≡ y = grind (arith, nat_tests, same) in ap test (sym one) ∙ passes
     go false true same passes none later = later (grind (arith, nat_tests, same, has)) (grind (arith, nat_tests, same, none))
     go false false same passes none later = later (grind (arith, nat_tests, same, has)) none
-
--- where the mapped value is there, so is the value
-pub mapped : {A B : Type 0} (f : A → B) (o : Option A) (y : B) → option_map f o ≡ Some y → (x : A) × (o ≡ Some x) × (f x ≡ y)
-mapped f None y is = absurd (cc)
-mapped f (Some x) y is = (x, refl, (cc))
 
 -- each of these places has its piece
 pub places_have : (xs : List Place) → All (λ place. has_piece (pieces_of xs) (at_of place) ≡ true) xs

@@ -1,8 +1,9 @@
 -- A repair or a move of a history keeps the bytes of a named segment.
-use Rattle.std.proofs.Common.{◌≡◌, ℕ, suc, ◌+◌, ◌<◌, ◌≤◌, ◌==◌, Bool, true, false, not, List, length, get_or, Option, Some, None, refl, sym, ap, ◌∙◌, subst, arith}
-use Rattle.std.specs.Prelude.{All, ◌&&◌, filter, slice_get, if◌then◌else◌}
+use Rattle.std.proofs.Common.{◌≡◌, ℕ, suc, ◌+◌, ◌≤◌, Bool, true, false, not, List, length, get_or, Option, Some, None, refl, sym, ap, ◌∙◌, subst, arith}
+use Rattle.std.specs.Prelude.{All, ◌&&◌, slice_get, if◌then◌else◌}
 use Rattle.std.specs.Option.{option_map}
 use Rattle.std.proofs.lemmas.Bool.Decides.{nat_tests}
+use Rattle.std.proofs.lemmas.Bool.{and_left}
 use Rattle.sat_base.specs.declared.nodes.Held.{Held}
 use Rattle.sat_base.specs.declared.requests.Place.{Place}
 use Rattle.sat_base.specs.Scheme.{stripe_count}
@@ -12,20 +13,19 @@ use Rattle.repair_core.specs.declared.plan.ExitPlan.{ExitPlan}
 use Rattle.repair_core.specs.declared.plan.RepairPlan.{RepairPlan}
 use Rattle.repair_core.specs.Indexes.{has_index, place_indexes}
 use Rattle.machine_calls.specs.declared.call.Call.{Call}
-use Rattle.machine_calls.specs.declared.reply.Reply.{Reply}
 use Rattle.machine_calls.specs.declared.reply.Reply.TheVariants as replies
 use Rattle.machine_calls.specs.Replies.{is_lost}
 use Rattle.machine_step.specs.Bounds.{IsValid}
 use Rattle.machine_step.specs.Calls.EndExit.{move_of, open_move}
-use Rattle.machine_step.specs.PlanRules.{is_move_of, is_none_or, is_planned_of, is_repair_of, is_sound_exit, is_sound_repair, is_whole_repair_of}
-use Rattle.machine_step.specs.Step.{IsMendedBy, IsSchemeOf, IsWellFormed, after, step}
+use Rattle.machine_step.specs.PlanRules.{is_move_of, is_none_or, is_planned_of, is_sound_exit, is_sound_repair, is_whole_repair_of}
+use Rattle.machine_step.specs.Step.{IsSchemeOf, IsWellFormed, after, step}
 use Rattle.machine_step.specs.Tables.{Tables, segment_at}
 use Rattle.machine_step.proofs.Fits.{within_found}
-use Rattle.machine_history.specs.History.{IsLegal, Said, taken}
+use Rattle.machine_history.specs.History.{IsLegal, Said}
 use Rattle.machine_plans.specs.Ends.{IsMended, is_repair_ended, move_end, repair_end}
-use Rattle.machine_plans.specs.Opened.{at_place, is_accepted}
+use Rattle.machine_plans.specs.Opened.{at_place}
 use Rattle.machine_plans.proofs.Held.{exit_holds, repair_holds}
-use Rattle.machine_plans.proofs.MendEnds.{mended_move, mended_repair}
+use Rattle.machine_plans.proofs.MendEnds.{mended_move, mended_repair, ended_none, accepts}
 use Rattle.machine_plans.proofs.Places.{next_at, right_at, valid_at}
 use Rattle.repair_core.specs.declared.outcome.RepairOutcome.TheVariants as repairs
 use Rattle.askable_plans.proofs.Pieces.{sized}
@@ -35,10 +35,6 @@ use Rattle.named_segments.specs.Named.{IsNamed}
 use Rattle.named_segments.specs.Repairs.{AreAt, IsWellMended, KeepsBytes}
 use Rattle.named_segments.proofs.Keeping.{AreAnswered, each_held, enough_sound}
 use Rattle.named_segments.proofs.Windows.{keeps_pieces, left_end}
-
-and_none : (a b : Bool) → a ≡ false → (a && b) ≡ false
-and_none true b p = absurd (cc)
-and_none false b p = refl
 
 -- what comes of a mended end
 by_made : (t next : Tables) (v : IsValid t) (w : IsValid next) (mended : Mended) (named : List ℕ) (secret : List ℕ) (sources targets : List Place) (answered : List ℕ) (before behind : List Held) → IsSchemeOf t.setup mended.scheme
@@ -58,7 +54,7 @@ by_made t next v w mended named secret sources targets answered before behind sc
     let apart : All (λ index. has_index mended.missing index ≡ false) (indexes_at well.end.still)
     = λ k d within.
     let i = get_or (indexes_at well.end.still) k d in
-    ap (λ (xs : List ℕ). has_index xs i) well.missing_are ∙ none_pass test (place_indexes plan.sources) i (and_none (has_index well.end.gone i) _ (left.apart k d within)) in
+    ap (λ (xs : List ℕ). has_index xs i) well.missing_are ∙ none_pass test (place_indexes plan.sources) i (and_left (has_index well.end.gone i) _ (left.apart k d within)) in
     let are : AreAnswered mended answered
     = subst (AreAnswered mended) (sym well.answered_are) (record { rise = left.rising; of_sources = left.among; apart = apart }) in
     let by = (within_found next w plan.segment.0 made.after made.at_next).by_index in
@@ -98,15 +94,6 @@ move_sized t v plan opened segment at version = go t.exit refl opened
         let moves : is_move_of exit segment ≡ true = grind (arith, nat_tests, here, in_version) in
         let len : exit.plan.len ≡ segment.len = grind (arith, nat_tests, moves) in
         ap (λ (p : RepairPlan). p.len) (sym same) ∙ len
-
-ended_none : (reply : Reply) → is_repair_ended reply ≡ true → is_lost reply ≡ false
-ended_none (replies.StoreFault before after) is = absurd cc
-ended_none replies.NoMemory is = absurd cc
-ended_none _ is = refl
-
-ended_accepted : (reply : Reply) → is_repair_ended reply ≡ true → is_accepted reply ≡ true
-ended_accepted (replies.RepairEnded version) is = refl
-ended_accepted _ is = absurd cc
 
 -- the tables behind an end that was made
 behind_end : (t : Tables) (h : List Said) (j : ℕ) (said : Said) (call : Call) → slice_get h j ≡ Some said → said.call ≡ call → is_lost said.reply ≡ false → at_place t h (suc j) ≡ after (at_place t h j) call
@@ -152,7 +139,7 @@ repair_keeps t h j said now mended named secret sources targets answered before 
     let f = formed t h j said v legal at ends call is in
     let a = answer t h j said v legal at ends call is in
     let w = valid t h j said v legal at ends call is in
-    let held = repair_holds (at_place t h j) now (repairs.Mended mended) (ended_accepted _ a) in
+    let held = repair_holds (at_place t h j) now (repairs.Mended mended) (accepts _ a) in
     kept_by t h j said v legal at ends call is mended named secret sources targets answered before behind f.scheme (mended_repair (at_place t h j) w now mended f a)
     (repair_sized (at_place t h j) w mended.plan held) names places well
 
@@ -164,6 +151,6 @@ move_keeps t h j said now mended named secret sources targets answered before be
     let f = formed t h j said v legal at ends call is in
     let a = answer t h j said v legal at ends call is in
     let w = valid t h j said v legal at ends call is in
-    let held = exit_holds (at_place t h j) now (repairs.Mended mended) (ended_accepted _ a) in
+    let held = exit_holds (at_place t h j) now (repairs.Mended mended) (accepts _ a) in
     kept_by t h j said v legal at ends call is mended named secret sources targets answered before behind f.scheme (mended_move (at_place t h j) w now mended f a)
     (move_sized (at_place t h j) w mended.plan held) names places well

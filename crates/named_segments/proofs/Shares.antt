@@ -1,11 +1,10 @@
 -- The shares of a window, against the stripes of a named segment.
-use Rattle.std.proofs.Common.{◌≡◌, ℕ, zero, suc, ◌+◌, ◌*◌, ◌<◌, ◌≤◌, ◌||◌, ◌==◌, Bool, true, false, cond, not, List, [], ◌∷◌, ◌++◌, length, get_or, take, drop, refl, sym, ap, ◌∙◌, subst, arith, append_assoc, append-nil, slice_index_or}
+use Rattle.std.proofs.Common.{◌≡◌, ℕ, zero, suc, ◌+◌, ◌*◌, ◌<◌, ◌≤◌, ◌==◌, Bool, true, false, cond, List, [], ◌∷◌, ◌++◌, length, get_or, take, refl, sym, ap, ◌∙◌, arith, append_assoc, append-nil, slice_index_or}
 use Rattle.std.specs.Prelude.{All, filter, map, if◌then◌else◌}
 use Rattle.std.specs.List.{concat, range_with_len}
-use Rattle.std.specs.Str.{bytes_eq}
 use Rattle.std.proofs.Math.Nat.{zero-mul}
 use Rattle.std.proofs.Math.Seq.{take-add}
-use Rattle.std.proofs.lemmas.Bool.{eqb-true, eq-eqb}
+use Rattle.std.proofs.lemmas.Bool.{eqb-true, not-false}
 use Rattle.std.proofs.lemmas.Bool.Decides.{nat_tests}
 use Rattle.std.proofs.lemmas.List.{take_all}
 use Rattle.std.proofs.lemmas.List.FromFn.{fill_by_all}
@@ -18,6 +17,7 @@ use Rattle.repair_core.specs.Answers.{answer_at, answer_bytes}
 use Rattle.repair_core.specs.Indexes.{has_index}
 use Rattle.repair_core.specs.Stripes.{any_below, is_ever_altered}
 use Rattle.repair_core.proofs.Whole.{map-map}
+use Rattle.node_asks.proofs.SpreadLemmas.{or_left, or_right}
 
 -- ---- lists by number
 
@@ -58,13 +58,9 @@ tabulate_same (suc n) f g same =
 
 -- ---- one answer
 
-not_false : (b : Bool) → not b ≡ false → b ≡ true
-not_false true h = refl
-not_false false h = absurd (cc)
-
 -- an answer that isn't altered is the stripe's share
 answer_same : (k size count s : ℕ) (stripe : List ℕ) (piece : Share) → is_altered k size stripe (answer_at size count s piece) ≡ false → answer_bytes size count s piece.bytes ≡ share_of k size stripe piece.index
-answer_same k size count s stripe piece right = (bytes_eq-Decides (answer_bytes size count s piece.bytes) (share_of k size stripe piece.index)).0 (not_false _ right)
+answer_same k size count s stripe piece right = (bytes_eq-Decides (answer_bytes size count s piece.bytes) (share_of k size stripe piece.index)).0 (not-false _ right)
 
 -- such an answer has bytes, so that the piece has the right length
 answer_long : (k size count s : ℕ) (stripe : List ℕ) (piece : Share) → 1 ≤ size → answer_bytes size count s piece.bytes ≡ share_of k size stripe piece.index → (length piece.bytes == count * size) ≡ true
@@ -87,14 +83,6 @@ share_whole k size count stripe piece some least right =
     ∙ sym (runs_front size count piece.bytes)
     ∙ tabulate_same count (run size piece.bytes) (λ s. share_of k size (stripe s) piece.index)
     (λ s lt. sym (answer_run size count s piece.bytes is) ∙ answer_same k size count s (stripe s) piece (right s lt))
-
-pub or_left : (a b : Bool) → (a || b) ≡ false → a ≡ false
-or_left true b h = absurd (cc)
-or_left false b h = refl
-
-pub or_right : (a b : Bool) → (a || b) ≡ false → b ≡ false
-or_right true b h = absurd (cc)
-or_right false b h = h
 
 below_none : (n : ℕ) (test : ℕ → Bool) → any_below n test ≡ false → (s : ℕ) → s < n → test s ≡ false
 below_none zero test none s lt = absurd (omega arith)

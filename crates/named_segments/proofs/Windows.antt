@@ -1,13 +1,11 @@
 -- The windows of a repair whose sources answer well, against a named segment.
-use Rattle.std.proofs.Common.{◌≡◌, ℕ, zero, suc, ◌+◌, ◌-◌, ◌*◌, ◌/◌, ◌<◌, ◌≤◌, ◌||◌, ◌==◌, Bool, true, false, min, List, [], ◌∷◌, ◌++◌, length, get_or, take, drop, Option, Some, None, refl, sym, ap, ◌∙◌, subst, arith, slice_index_or}
-use Rattle.std.specs.Prelude.{All, filter, map, option_map, if◌then◌else◌}
+use Rattle.std.proofs.Common.{◌≡◌, ℕ, zero, suc, ◌+◌, ◌-◌, ◌*◌, ◌<◌, ◌≤◌, ◌||◌, Bool, true, false, List, [], ◌∷◌, ◌++◌, length, get_or, take, drop, Some, refl, sym, ap, ◌∙◌, subst, arith, slice_index_or}
+use Rattle.std.specs.Prelude.{All, map}
 use Rattle.std.specs.List.{AllZip, concat}
 use Rattle.std.proofs.Math.Nat.{zero-mul}
 use Rattle.std.proofs.Math.Seq.{take-add}
-use Rattle.std.proofs.lemmas.Bool.Decides.{nat_tests}
 use Rattle.std.proofs.lemmas.List.Elements.{All-nil, All-cons, All-head, All-tail}
 use Rattle.sat_base.specs.declared.items.Share.{Share}
-use Rattle.sat_base.specs.declared.nodes.Ask.{Ask}
 use Rattle.sat_base.specs.declared.nodes.Fetched.{Fetched}
 use Rattle.sat_base.specs.declared.nodes.Fetched.TheVariants as fetches
 use Rattle.sat_base.specs.declared.nodes.Held.{Held}
@@ -27,22 +25,23 @@ use Rattle.repair_core.specs.Indexes.{has_index, joined, place_indexes}
 use Rattle.repair_core.specs.Kept.{IsKept}
 use Rattle.repair_core.specs.Progress.{Progress}
 use Rattle.repair_core.specs.Rebuilt.{fresh_piece}
-use Rattle.repair_core.specs.Stripes.{AreNear, IsStripe, altered_indexes, is_ever_altered, longer}
-use Rattle.repair_core.specs.Windows.{IsWindow, after, empty_piece, next_stripes}
+use Rattle.repair_core.specs.Stripes.{AreNear, altered_indexes, is_ever_altered, longer}
+use Rattle.repair_core.specs.Windows.{after, empty_piece, next_stripes}
 use Rattle.repair_core.proofs.Mending.{indexes_of-answers_at}
 use Rattle.repair_core.proofs.Rising.{member_has}
 use Rattle.machine_step.specs.Containment.{has_piece}
 use Rattle.node_asks.specs.declared.answers.Answered.{Answered}
 use Rattle.node_asks.specs.Answers.{answers_in, places_in, shares_in, sharing_in}
-use Rattle.node_asks.specs.Asks.{at_of, piece_len_of, pieces_of, window_ask}
+use Rattle.node_asks.specs.Asks.{at_of, pieces_of, window_ask}
 use Rattle.node_asks.specs.Remaking.{Ends, Heeding, Heeds, IsHeeded, heeding_of}
 use Rattle.node_asks.proofs.RemakeLemmas.{shares_all, shares_rise, some_window}
 use Rattle.node_asks.proofs.SourceLemmas.{AreLeft, left_at, left_first}
-use Rattle.node_asks.proofs.SpreadLemmas.{indexes_at}
-use Rattle.named_segments.specs.Repairs.{AreWellHeard, HoldsPiece, IsWellHeard, KeepsPieces}
-use Rattle.named_segments.proofs.Members.{fails_if, mapped, places_have, sharing_places}
-use Rattle.named_segments.proofs.Shares.{concat_both, never_altered, not_among, or_left, or_right, share_whole, shares_same}
+use Rattle.node_asks.proofs.SpreadLemmas.{indexes_at, or_left, or_right}
+use Rattle.named_segments.specs.Repairs.{AreWellHeard, IsWellHeard, KeepsPieces}
+use Rattle.named_segments.proofs.Members.{fails_if, places_have, sharing_places}
+use Rattle.named_segments.proofs.Shares.{concat_both, never_altered, not_among, share_whole, shares_same}
 use Rattle.named_segments.proofs.Stripes.{stripe_bytes, stripe_long}
+use Rattle.sat_base.proofs.TextLemmas.{map_some}
 
 module _ (pieces : List Held) (secret : List ℕ) (scheme : Scheme) (plan : RepairPlan) (named : List ℕ) where
   abbrev part : ℕ → ℕ → List ℕ
@@ -74,7 +73,7 @@ module _ (pieces : List Held) (secret : List ℕ) (scheme : Scheme) (plan : Repa
       → (whole : List ℕ) × (held_at pieces place.node plan.segment place.index ≡ Some whole) × (take ((done + number) * scheme.share) whole ≡ front place.index (done + number))
   window_held blamed done number place bytes right none fetched is =
       let ask = window_ask secret scheme plan done number place in
-      let there = mapped (range_of ask) (asked_of pieces ask) bytes fetched in
+      let there = map_some (range_of ask) (asked_of pieces ask) bytes fetched in
       let split : (done + number) * scheme.share ≡ done * scheme.share + number * scheme.share = omega arith in
       let range : take (number * scheme.share) (drop (done * scheme.share) there.0) ≡ bytes = there.2 in (
         there.0,

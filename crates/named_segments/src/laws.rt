@@ -5,6 +5,7 @@ ghost use Rattle.sat_base.specs.declared.requests.Place.{Place};
 ghost use Rattle.audit_core.specs.declared.verdict.Judged.{Judged};
 ghost use Rattle.repair_core.specs.declared.outcome.Mended.{Mended};
 ghost use Rattle.machine_calls.specs.declared.call.Call.TheVariants as calls;
+ghost use Rattle.machine_calls.specs.declared.task.Task.TheVariants as tasks;
 ghost use Rattle.machine_step.specs.Bounds.{IsValid};
 ghost use Rattle.machine_step.specs.Tables.{Tables};
 ghost use Rattle.machine_history.specs.History.{Said, IsLegal};
@@ -19,7 +20,7 @@ ghost use Rattle.named_segments.specs.Repairs.{AreAt, IsWellMended, KeepsBytes};
 /// segment has as many bytes as the one that is there.
 pub fn an_audit_blames_the_altered()
     ensures { (t : Tables) (h : List Said) (j : ℕ) (said : Said) (now : ℕ) (judged : Judged) (named : List ℕ)
-        → IsValid t → IsLegal t h → slice_get h j ≡ Some said → said.call ≡ calls.EndAudit now judged
+        → IsValid t → IsLegal t h → slice_get h j ≡ Some said → said.call ≡ calls.Own now (tasks.EndAudit judged)
         → is_audit_ended said.reply ≡ true → IsNamed (at_place t h j) judged.plan.segment.0 named
         → IsAnsweredWell judged named → BlamesJust judged named said.reply }
 {}

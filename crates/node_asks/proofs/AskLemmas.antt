@@ -1,4 +1,4 @@
--- What was asked, as far as it was, and answers that weren't for want of memory.
+-- What was asked, as far as it was, and answers that weren't for lack of memory.
 use Rattle.std.proofs.Common.{◌≡◌, ℕ, ◌+◌, Bool, true, false, cond, List, [], ◌∷◌, length, take, Option, Result, Ok, Err, refl, ap, sym, ◌∙◌, arith}
 use Rattle.std.specs.Prelude.{All, OnErr, count_by}
 use Rattle.std.proofs.Math.Seq.{take-length}
@@ -7,11 +7,11 @@ use Rattle.std.proofs.lemmas.List.Sums.{sum_by-cons}
 use Rattle.sat_base.specs.declared.nodes.Ask.{Ask}
 use Rattle.sat_base.specs.declared.nodes.Fetched.{Fetched}
 use Rattle.sat_base.specs.declared.nodes.Fetched.TheVariants as fetches
-use Rattle.sat_base.specs.Nodes.{AsksSome, is_wanting as wants}
+use Rattle.sat_base.specs.Nodes.{AsksSome, is_out_of_memory as wants}
 use Rattle.sat_base.specs.Outside.{with_end}
 use Rattle.sat_base.proofs.Told.{with_end-none}
 use Rattle.audit_core.specs.declared.plan.Heard.{Heard}
-use Rattle.audit_core.specs.Heard.{is_wanting}
+use Rattle.audit_core.specs.Heard.{is_out_of_memory}
 use Rattle.node_asks.specs.Hearing.{fetched_in}
 
 -- what holds in any case holds of an error
@@ -27,7 +27,7 @@ none_sent old asks = (0, sym (with_end-none old))
 pub all_sent : (old new : Option (List Ask)) (asks : List Ask) → new ≡ with_end old asks → AsksSome old asks new
 all_sent old new asks e = (length asks, e ∙ ap (λ (xs : List Ask). with_end old xs) (sym (take-length asks)))
 
-one_given : (what : Fetched) → wants what ≡ false → is_wanting what ≡ false
+one_given : (what : Fetched) → wants what ≡ false → is_out_of_memory what ≡ false
 one_given (fetches.Share bytes) e = refl
 one_given fetches.Missing e = refl
 one_given fetches.NoAnswer e = refl
@@ -45,9 +45,9 @@ rest_given true n m e none = omega arith
 rest_given false n m e none = omega arith
 
 -- where none is wanting, each was given
-pub all_given : (heard : List Heard) → count_by wants (fetched_in heard) ≡ 0 → All (λ one. is_wanting one.what ≡ false) heard
-all_given [] none = All-nil (λ one. is_wanting one.what ≡ false)
+pub all_given : (heard : List Heard) → count_by wants (fetched_in heard) ≡ 0 → All (λ one. is_out_of_memory one.what ≡ false) heard
+all_given [] none = All-nil (λ one. is_out_of_memory one.what ≡ false)
 all_given (one ∷ rest) none =
     let counted = count-first one rest in
-    All-cons (λ one. is_wanting one.what ≡ false) one rest (one_given one.what (first_given (wants one.what) _ _ counted none))
+    All-cons (λ one. is_out_of_memory one.what ≡ false) one rest (one_given one.what (first_given (wants one.what) _ _ counted none))
     (all_given rest (rest_given (wants one.what) _ _ counted none))

@@ -1,11 +1,11 @@
 -- The sources of a repair once it was asked: who answered, who is blamed and who is missing, and what was made.
-use Rattle.std.proofs.Common.{◌≡◌, ℕ, zero, suc, ◌+◌, ◌*◌, ◌<◌, ◌≤◌, Bool, true, false, not, List, [], ◌∷◌, ◌++◌, length, get_or, Option, Some, None, refl, sym, ap, subst, ◌∙◌, arith, length-append}
+use Rattle.std.proofs.Common.{◌≡◌, ℕ, zero, suc, ◌+◌, ◌*◌, ◌<◌, Bool, true, false, not, List, [], ◌∷◌, ◌++◌, length, get_or, Option, Some, None, refl, sym, ap, subst, ◌∙◌, arith, length-append}
 use Rattle.std.specs.Prelude.{All, filter, map, if◌then◌else◌, ◌==◌, ◌||◌, ◌&&◌}
 use Rattle.std.specs.List.{AllZip, concat}
 use Rattle.std.proofs.Math.Nat.{zero-mul}
 use Rattle.std.proofs.lemmas.Bool.Decides.{nat_tests}
-use Rattle.std.proofs.lemmas.List.{get_or_default}
 use Rattle.std.proofs.lemmas.List.Elements.{All-nil, All-cons, All-head, All-tail}
+use Rattle.std.proofs.lemmas.Bool.{or_from}
 use Rattle.sat_base.specs.declared.items.Share.{Share}
 use Rattle.sat_base.specs.declared.nodes.Ask.{Ask}
 use Rattle.sat_base.specs.declared.nodes.Fetched.{Fetched}
@@ -25,14 +25,14 @@ use Rattle.repair_core.specs.Progress.{Progress}
 use Rattle.repair_core.specs.Stripes.{altered_indexes, longer}
 use Rattle.repair_core.specs.Windows.{IsWindow, after, empty_piece}
 use Rattle.repair_core.proofs.Marks.{has_index-append}
-use Rattle.repair_core.proofs.Rising.{all_among, member_has}
+use Rattle.repair_core.proofs.Rising.{all_among, member_has, rises_head, rises_cons, has_above}
 use Rattle.node_asks.specs.declared.answers.Answered.{Answered}
 use Rattle.node_asks.specs.declared.remaking.Heeded.{Heeded}
 use Rattle.node_asks.specs.Answers.{lacking_in, places_in, shares_in, sharing_in}
 use Rattle.node_asks.specs.Asks.{piece_len_of, pieces_of}
-use Rattle.node_asks.specs.Remaking.{AreAnswered, Ends, Heeding, Heeds, IsHeeded, IsRemade, Remakes, blamed_of, heeding_of}
+use Rattle.node_asks.specs.Remaking.{Ends, Heeding, Heeds, Remakes, blamed_of, heeding_of}
 use Rattle.node_asks.specs.Spreading.{IsFresh}
-use Rattle.node_asks.specs.Telling.{AreSources, CanSpread}
+use Rattle.node_asks.specs.Telling.{AreSources}
 use Rattle.node_asks.proofs.RemakeLemmas.{shares_all, shares_rise, sharing-indexes}
 use Rattle.node_asks.proofs.SpreadLemmas.{indexes_at, pieces-indexes}
 
@@ -40,14 +40,6 @@ use Rattle.node_asks.proofs.SpreadLemmas.{indexes_at, pieces-indexes}
 
 rises_tail : (x : ℕ) (xs : List ℕ) → Rises (x ∷ xs) → Rises xs
 rises_tail x xs rises i j before within = rises (suc i) (suc j) (omega arith) (omega arith)
-
-rises_head : (x : ℕ) (xs : List ℕ) → Rises (x ∷ xs) → All (λ y. x < y) xs
-rises_head x xs rises k d within = rw (get_or_default xs k d 0 within) (rises 0 (suc k) (omega arith) (omega arith))
-
-rises_cons : (x : ℕ) (xs : List ℕ) → All (λ y. x < y) xs → Rises xs → Rises (x ∷ xs)
-rises_cons x xs above rises i zero before within = absurd (omega arith)
-rises_cons x xs above rises zero (suc j) before within = above j 0 (omega arith)
-rises_cons x xs above rises (suc i) (suc j) before within = rises i j (omega arith) (omega arith)
 
 pub all_some : (P : ℕ → Type 0) (test : ℕ → Bool) (xs : List ℕ) → All P xs → All P (filter test xs)
 all_some P test [] all = All-nil P
@@ -80,13 +72,6 @@ none_pass test xs y fails = go (has_index (filter test xs) y) refl
     go : (b : Bool) → has_index (filter test xs) y ≡ b → b ≡ false
     go true is = let passes : test y ≡ true = member_has (λ x. test x ≡ true) y (filter test xs) (all_pass test xs) is in absurd (cc)
     go false is = refl
-
-has_above : (x : ℕ) (ys : List ℕ) → All (λ y. x < y) ys → has_index ys x ≡ false
-has_above x [] above = refl
-has_above x (y ∷ ys) above =
-    let here : x < y = All-head (λ z. x < z) y ys above in
-    let rest = has_above x ys (All-tail (λ z. x < z) y ys above) in
-    grind (arith, nat_tests, rest, here)
 
 -- ---- who is missing in a window gave no share in it
 
@@ -134,10 +119,6 @@ pub record AreLeft (sources : List ℕ) (now : Heeding) : Type 0 where
   pub among : All (λ index. has_index sources index ≡ true) (indexes_at now.still)
   pub apart : All (λ index. has_index now.gone index ≡ false) (indexes_at now.still)
 
-neither : (a b : Bool) → a ≡ false → b ≡ false → (a || b) ≡ false
-neither true b p q = p
-neither false b p q = q
-
 left_next : (sources : List ℕ) (old : Heeding) (all : List Answered) → places_in all ≡ old.still → AreLeft sources old → Rises (indexes_at (sharing_in all)) × All (λ index. has_index sources index ≡ true) (indexes_at (sharing_in all)) × All (λ index. has_index (old.gone ++ lacking_in all) index ≡ false) (indexes_at (sharing_in all))
 left_next sources old all places left =
     let by = sharing-indexes all in
@@ -148,7 +129,7 @@ left_next sources old all places left =
       subst (All (λ index. has_index sources index ≡ true)) (sym by) (shares_all (λ index. has_index sources index ≡ true) all old.still places left.among),
       λ k d within.
           let i = get_or (indexes_at (sharing_in all)) k d in
-          has_index-append old.gone (lacking_in all) i ∙ neither (has_index old.gone i) (has_index (lacking_in all) i) (before k d within) (none k d within),
+          has_index-append old.gone (lacking_in all) i ∙ or_from (has_index old.gone i) (has_index (lacking_in all) i) (before k d within) (none k d within),
     )
 
 pub left_at : (sources : List ℕ) (old new : Heeding) (all : List Answered) → places_in all ≡ old.still → AreLeft sources old → new.still ≡ sharing_in all → new.gone ≡ old.gone ++ lacking_in all → AreLeft sources new

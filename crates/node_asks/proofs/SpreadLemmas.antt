@@ -1,7 +1,7 @@
 -- Fresh pieces at their targets, one more.
-use Rattle.std.proofs.Common.{◌≡◌, ℕ, zero, suc, ◌+◌, ◌-◌, ◌^◌, ◌<◌, ◌≤◌, ◌==◌, Bool, true, false, not, List, [], ◌∷◌, ◌++◌, length, take, get_or, Option, Some, None, refl, ap, sym, subst, ◌∙◌, inl, inr, arith}
-use Rattle.std.specs.Prelude.{All, map, ◌&&◌, ◌||◌, slice_index}
-use Rattle.std.specs.List.{AllZip, list_any}
+use Rattle.std.proofs.Common.{◌≡◌, ℕ, ◌+◌, ◌-◌, ◌^◌, ◌<◌, ◌≤◌, Bool, true, false, not, List, [], ◌∷◌, ◌++◌, length, take, get_or, Option, Some, None, refl, ap, sym, subst, ◌∙◌, inl, inr, arith}
+use Rattle.std.specs.Prelude.{All, map, ◌||◌, slice_index}
+use Rattle.std.specs.List.{AllZip}
 use Rattle.std.proofs.Math.Nat.{eq-or-lt_of_le}
 use Rattle.std.proofs.Math.Seq.{get_or-append_seam}
 use Rattle.std.proofs.lemmas.Bool.Decides.{nat_tests}
@@ -9,6 +9,7 @@ use Rattle.std.proofs.lemmas.List.{get_or-map, get_or-take, length-append, lengt
 use Rattle.std.proofs.lemmas.List.Elements.{All-head, All-tail, All-append, All-cons, All-nil}
 use Rattle.std.proofs.lemmas.List.Folds.{list_any-append}
 use Rattle.std.proofs.lemmas.Slice.Zip.{all_zipped_more}
+use mathlib.Core.Bool.{or-false}
 use Rattle.sat_base.specs.declared.ids.SegId.{SegId}
 use Rattle.sat_base.specs.declared.items.Share.{Share}
 use Rattle.sat_base.specs.declared.nodes.Ask.{Ask}
@@ -16,7 +17,7 @@ use Rattle.sat_base.specs.declared.nodes.Held.{Held}
 use Rattle.sat_base.specs.declared.nodes.Stored.TheVariants as stores
 use Rattle.sat_base.specs.declared.requests.Place.{Place}
 use Rattle.sat_base.specs.declared.scheme.Scheme.{Scheme}
-use Rattle.sat_base.specs.Nodes.{AsksSome, held_at, is_piece, asked_of, StoredTo, Stores, KeepsOthers}
+use Rattle.sat_base.specs.Nodes.{AsksSome, is_piece, StoredTo, Stores, KeepsOthers}
 use Rattle.sat_base.specs.Outside.{CountsExactly, with_end}
 use Rattle.sat_base.proofs.Told.{with_end-end}
 use Rattle.bw_decode.specs.Near.{Rises}
@@ -95,17 +96,13 @@ holds_own : (secret : List ℕ) (scheme : Scheme) (plan : RepairPlan) (mid new :
 holds_own secret scheme plan mid new p f kept true stored lower has = stored.0 refl
 holds_own secret scheme plan mid new p f kept false stored lower has = let h = lower p.index has in absurd (omega (arith, h))
 
-or_left : (a b : Bool) → (a || b) ≡ false → a ≡ false
+pub or_left : (a b : Bool) → (a || b) ≡ false → a ≡ false
 or_left true b e = cc
 or_left false b e = refl
 
-or_right : (a b : Bool) → (a || b) ≡ false → b ≡ false
+pub or_right : (a b : Bool) → (a || b) ≡ false → b ≡ false
 or_right true b e = cc
 or_right false b e = e
-
-or_none : (b : Bool) → (b || false) ≡ b
-or_none true = refl
-or_none false = refl
 
 one_more : (secret : List ℕ) (scheme : Scheme) (plan : RepairPlan) (old mid new : List Held) (ts : List Place) (fs : List Share) (p : Place) (f : Share) (kept : List ℕ) (b : Bool)
     → IsSpread old plan.segment ts fs kept mid → StoredTo mid (put_ask secret scheme plan p) f.bytes (stored_as b) new
@@ -117,7 +114,7 @@ one_more secret scheme plan old mid new ts fs p f kept b before stored below amo
       (holds_own secret scheme plan mid new p f kept b stored (lower ts p.index kept below among));
   others = λ held. λ none.
       let split = sym (list_any-append (λ (place : Place). is_piece place.node plan.segment place.index held) ts (p ∷ [])) ∙ none in
-      stored.1 held (sym (or_none (is_piece p.node plan.segment p.index held)) ∙ or_right (is_target plan.segment ts held) _ split) ∙ before.others held (or_left _ _ split);
+      stored.1 held (sym (or-false (is_piece p.node plan.segment p.index held)) ∙ or_right (is_target plan.segment ts held) _ split) ∙ before.others held (or_left _ _ split);
 }
 
 pub spreads_more : (secret : List ℕ) (scheme : Scheme) (plan : RepairPlan) (old mid new : Option (List Held)) (targets : List Place) (fresh : List Share) (i : ℕ) (p : Place) (f : Share) (kept : List ℕ) (b : Bool)

@@ -18,7 +18,7 @@ fn count_sound(blamed: &Indexes, answered: &Indexes) -> usize
 }
 
 /// How a repair ended whose pieces were made: mended exactly where at least `k` of the sources that answered weren't
-/// altered. `placed` are the targets that are kept. The one error is want of memory.
+/// altered. `placed` are the targets that are kept. It fails only where memory runs out.
 pub fn conclude(
     alloc: Global,
     scheme: &Scheme,

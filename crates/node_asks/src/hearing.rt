@@ -50,7 +50,7 @@ fn heard_of(alloc: Global, all: Vec<Answered>) -> Result<Vec<Heard>, NoMemory>
 /// Asks the nodes of an audit for their shares of its stripe, all at once, and tells what is heard, by the indexes of
 /// the plan. `places` are where the plan's pieces lie, in its order.
 ///
-/// Each piece that nothing was heard of raised the nodes' count. The one error is want of memory; then some of the asks
+/// Each piece that nothing was heard of raised the nodes' count. It fails only where memory runs out; then some of the asks
 /// may have been made.
 pub fn hear<N: Nodes>(
     alloc: Global,

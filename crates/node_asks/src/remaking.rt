@@ -205,7 +205,7 @@ fn handed_back(
 /// can't be rebuilt. `sources` are where the plan's sources lie, in its order.
 ///
 /// Each source that gave no answer raised the nodes' count. The decoder's room was made for this scheme, or for one with
-/// at least as many shares. The one error is want of memory; then some of the asks may have been made.
+/// at least as many shares. It fails only where memory runs out; then some of the asks may have been made.
 pub fn remake<N: Nodes>(
     alloc: Global,
     keys: &Keys,

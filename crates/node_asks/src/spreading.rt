@@ -44,7 +44,7 @@ fn put_at<N: Nodes>(
 /// Puts each fresh piece at its target, one after the other, and tells the indexes that are kept. `targets` are where
 /// the plan's targets lie, in its order, and `fresh` has a whole piece for each.
 ///
-/// Each target that isn't told raised the nodes' count. The one error is want of memory; then some of the pieces may
+/// Each target that isn't told raised the nodes' count. It fails only where memory runs out; then some of the pieces may
 /// have been put.
 pub fn spread<N: Nodes>(
     alloc: Global,

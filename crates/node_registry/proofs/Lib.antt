@@ -1,3 +1,2 @@
 pub mod Rated
 pub mod Numbered
-pub mod Known

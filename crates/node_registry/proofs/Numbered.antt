@@ -21,7 +21,7 @@ pub place_in_range : (nodes : List Node) (k j : ℕ) → CountsFrom k nodes → 
 place_in_range [] k j counts there = cc
 place_in_range (node ∷ rest) k j counts there = grind (arith, nat_tests, counts.0, there, place_in_range rest (suc k) j counts.1)
 
-none_replaced : (node : Node) (nodes : List Node) (k : ℕ) → CountsFrom k nodes → node.id.0 < k → replaced node_rank node nodes ≡ nodes
+pub none_replaced : (node : Node) (nodes : List Node) (k : ℕ) → CountsFrom k nodes → node.id.0 < k → replaced node_rank node nodes ≡ nodes
 none_replaced node [] k counts lt = refl
 none_replaced node (first ∷ rest) k counts lt = grind (arith, nat_tests, counts.0, none_replaced node rest (suc k) counts.1)
 

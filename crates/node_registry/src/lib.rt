@@ -1,12 +1,10 @@
-//! The storage nodes that a satellite knows: who they are, how they stand, what reputation their audits gave them,
-//! and which of them still owe the answer to one.
+//! The storage nodes that a satellite knows: who they are, how they stand, and what reputation their audits gave them.
 //!
 //! - [`after`] is the beta reputation of a node after the outcome of an audit, exactly: a score below 600
 //!   disqualifies it, and a node that isn't serving stays as it was. [`reputation_stays_rated`]: whatever outcomes
 //!   come, the weights stay in their bounds, and a node that is disqualified stays so.
-//! - [`NodeTable`] is a list of nodes with the ids 1 to their number, and a list of containments by node, each of a
-//!   node of the table. Its calls change those lists as they say and nothing else, and take no memory where there is
-//!   room. A node is looked up in one step.
+//! - [`NodeTable`] is a list of nodes with the ids 1 to their number. Its calls change it as they say and nothing else,
+//!   and take no memory where there is room. A node is looked up in one step.
 //!
 //! Not promised: that an address or the free bytes of a node are true; they are what was said.
 #![tactic(auto)]

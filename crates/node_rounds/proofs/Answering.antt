@@ -1,5 +1,5 @@
 -- What a call that was entered is answered: a plan that can be asked.
-use Rattle.std.proofs.Common.{◌≡◌, ℕ, ◌<◌, ◌^◌, List, [], ◌∷◌, ◌++◌, true, Option, Some, None, refl, sym, ap, ◌∙◌, subst}
+use Rattle.std.proofs.Common.{◌≡◌, ℕ, ◌<◌, ◌^◌, List, [], ◌∷◌, ◌++◌, length, Bool, true, false, Option, Some, None, refl, sym, ap, ◌∙◌, subst}
 use Rattle.std.specs.Prelude.{IsSomeAnd, map}
 use mathlib.Core.List.{map-append}
 use Rattle.sat_base.specs.declared.scheme.Scheme.{Scheme}
@@ -12,13 +12,13 @@ use Rattle.machine_calls.specs.declared.reply.Reply.TheVariants as replies
 use Rattle.machine_step.specs.Bounds.{IsValid}
 use Rattle.machine_step.specs.Step.{IsSchemeOf}
 use Rattle.machine_step.specs.Tables.{Setup, Tables, setup_of}
-use Rattle.machine_history.specs.History.{IsLegal, IsRight, replay}
+use Rattle.machine_history.specs.History.{IsLegal, IsRight, Said, replay}
 use Rattle.machine_history.proofs.HistoryLemmas.{follows_all, legal-append}
 use Rattle.sat_book.specs.Book.{AreOf, start_of}
 use Rattle.sat_book.specs.Legal.{E, replayed, said_of}
 use Rattle.sat_book.specs.declared.opening.Opening.{Opening}
 use Rattle.sat_book.specs.declared.opening.Origin.{Origin}
-use Rattle.sat_rounds.specs.Sessions.{V}
+use Rattle.sat_sessions.specs.Sessions.{V}
 use Rattle.askable_plans.proofs.Audits.{audit_askable, recheck_askable}
 use Rattle.askable_plans.proofs.Moves.{move_askable}
 use Rattle.askable_plans.proofs.Repairs.{repair_askable}

@@ -1,5 +1,5 @@
 -- What comes of asking the nodes of a plan, put together.
-use Rattle.std.proofs.Common.{◌≡◌, ℕ, false, true, List, [], ◌∷◌, Option, Some, None, Result, Ok, Err, refl, sym, ap, ◌∙◌, subst}
+use Rattle.std.proofs.Common.{◌≡◌, ℕ, false, true, List, Option, Some, None, Result, Ok, Err, refl, sym, ap, ◌∙◌, subst}
 use Rattle.std.specs.Prelude.{All, IfOk, OnErr}
 use Rattle.sat_base.specs.declared.nodes.Ask.{Ask}
 use Rattle.sat_base.specs.declared.nodes.Fetched.{Fetched}
@@ -12,7 +12,7 @@ use Rattle.sat_base.proofs.Told.{with_end-none}
 use Rattle.bw_decode.specs.Near.{Rises}
 use Rattle.audit_core.specs.declared.rechecking.Checked.{Checked}
 use Rattle.audit_core.specs.declared.rechecking.RecheckPlan.{RecheckPlan}
-use Rattle.audit_core.specs.Heard.{is_wanting}
+use Rattle.audit_core.specs.Heard.{is_out_of_memory}
 use Rattle.audit_core.specs.Recheck.{checked}
 use Rattle.repair_core.specs.declared.outcome.RepairOutcome.{RepairOutcome}
 use Rattle.repair_core.specs.declared.outcome.Unmended.{Unmended}
@@ -30,6 +30,7 @@ use Rattle.askable_plans.specs.Askable.{IsRecheckable, IsRepairable}
 use Rattle.node_rounds.specs.declared.kit.NodesView.{NodesView}
 use Rattle.node_rounds.specs.Askable.{IsMendedAs}
 use Rattle.node_rounds.specs.Asked.{IsEnded, IsGathered, IsRechecked, IsRepaired}
+use Rattle.sat_base.proofs.Fetches.{asked_once}
 
 pub if_ok : {T E : Type 0} (P Q : T → Type 0) (r : Result T E) → IfOk r P → ((x : T) → P x → Q x) → IfOk r Q
 if_ok P Q (Ok x) p f = f x p
@@ -41,7 +42,7 @@ if_err P Q (Err e) p f = f p
 
 -- ---- a recheck
 
-pub not_wanting : (fetched : Fetched) → (fetched ≡ fetches.NoMemory → ⊥) → is_wanting fetched ≡ false
+pub not_wanting : (fetched : Fetched) → (fetched ≡ fetches.NoMemory → ⊥) → is_out_of_memory fetched ≡ false
 not_wanting (fetches.Share bytes) other = refl
 not_wanting fetches.Missing other = refl
 not_wanting fetches.NoAnswer other = refl
@@ -50,7 +51,7 @@ not_wanting fetches.NoMemory other = absurd (other refl)
 pub same_view : (old new : NodesView) → new.held ≡ old.held → new.asks ≡ old.asks → new.faults ≡ old.faults → new ≡ old
 same_view old new held asks faults = λ i. record { held = held i; asks = asks i; faults = faults i }
 
--- for want of memory nothing was asked
+-- for lack of memory nothing was asked
 pub unasked : (ask : Ask) (fetched : Fetched) (old new : NodesView) → fetched ≡ fetches.NoMemory → new.held ≡ old.held → new.asks ≡ with_end old.asks (fetch_asks ask fetched)
     → CountsExactly (is_unanswered fetched) old.faults new.faults → new ≡ old
 unasked ask (fetches.Share bytes) old new is held asks counts = absurd (cc)
@@ -58,22 +59,16 @@ unasked ask fetches.Missing old new is held asks counts = absurd (cc)
 unasked ask fetches.NoAnswer old new is held asks counts = absurd (cc)
 unasked ask fetches.NoMemory old new is held asks counts = same_view old new held (asks ∙ with_end-none old.asks) counts
 
-sent_one : (ask : Ask) (fetched : Fetched) → is_wanting fetched ≡ false → fetch_asks ask fetched ≡ ask ∷ []
-sent_one ask (fetches.Share bytes) given = refl
-sent_one ask fetches.Missing given = refl
-sent_one ask fetches.NoAnswer given = refl
-sent_one ask fetches.NoMemory given = absurd (cc)
-
 pub rechecked : (secret : List ℕ) (scheme : Scheme) (plan : RecheckPlan) (place : Place) (old : NodesView) (fetched : Fetched) (new : NodesView) (found : Checked) → IsRecheckable plan place
     → Fetches old.held (recheck_ask secret scheme plan place) fetched → FetchesWithin (recheck_ask secret scheme plan place) fetched → new.asks ≡ with_end old.asks (fetch_asks (recheck_ask secret scheme plan place) fetched)
-    → CountsExactly (is_unanswered fetched) old.faults new.faults → new.held ≡ old.held → is_wanting fetched ≡ false → found ≡ checked plan.expect fetched → IsRechecked secret scheme plan place old found new
+    → CountsExactly (is_unanswered fetched) old.faults new.faults → new.held ≡ old.held → is_out_of_memory fetched ≡ false → found ≡ checked plan.expect fetched → IsRechecked secret scheme plan place old found new
 rechecked secret scheme plan place old fetched new found can told within asks counts held given is = record {
   can = can;
   fetched = fetched;
   told = told;
   within = within;
   given = given;
-  asks = asks ∙ ap (with_end old.asks) (sent_one (recheck_ask secret scheme plan place) fetched given);
+  asks = asks ∙ ap (with_end old.asks) (asked_once (recheck_ask secret scheme plan place) fetched given);
   counted = counts;
   held = held;
   found_is = is;

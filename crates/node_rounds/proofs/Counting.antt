@@ -1,5 +1,5 @@
 -- The nodes that a round calls silent, and the targets that it doesn't tell as placed, are counted.
-use Rattle.std.proofs.Common.{◌≡◌, ℕ, ◌+◌, ◌-◌, ◌^◌, ◌<◌, ◌≤◌, Bool, true, false, List, [], ◌∷◌, ◌++◌, length, Option, Some, None, Result, Ok, Err, refl, sym, ap, ◌∙◌, subst, cond, arith}
+use Rattle.std.proofs.Common.{◌≡◌, ℕ, zero, suc, ◌+◌, ◌-◌, ◌^◌, ◌<◌, ◌≤◌, Bool, true, false, List, [], ◌∷◌, ◌++◌, length, Option, Some, None, Result, Ok, Err, refl, sym, ap, ◌∙◌, subst, cond, arith}
 use Rattle.std.specs.Prelude.{count_by, if◌then◌else◌, map}
 use Rattle.std.specs.Str.{bytes_eq}
 use Rattle.sha2.specs.Sha256.{sha256}
@@ -17,18 +17,20 @@ use Rattle.audit_core.specs.declared.plan.Heard.{Heard}
 use Rattle.audit_core.specs.declared.rechecking.Checked.{Checked}
 use Rattle.audit_core.specs.declared.rechecking.Checked.TheVariants as checks
 use Rattle.audit_core.specs.declared.verdict.Silent.{Silent}
-use Rattle.audit_core.specs.Heard.{is_wanting, silent_of}
+use Rattle.audit_core.specs.Heard.{is_out_of_memory, silent_of}
 use Rattle.audit_core.specs.Recheck.{checked}
+use Rattle.audit_core.specs.Verdict.{silent_indexes}
 use Rattle.repair_core.specs.declared.outcome.RepairOutcome.{RepairOutcome}
 use Rattle.repair_core.specs.declared.outcome.RepairOutcome.TheVariants as repairs
 use Rattle.repair_core.specs.declared.plan.RepairPlan.{RepairPlan}
 use Rattle.repair_core.specs.declared.rebuilt.Remade.{Remade}
+use Rattle.machine_calls.specs.declared.call.Call.{Call}
 use Rattle.machine_calls.specs.declared.reply.Reply.{Reply}
 use Rattle.machine_calls.specs.declared.reply.Reply.TheVariants as replies
 use Rattle.sat_book.specs.Legal.{E}
-use Rattle.sat_rounds.specs.Draws.{as_moment}
-use Rattle.sat_rounds.specs.declared.rounds.RoundEnd.{RoundEnd}
-use Rattle.sat_rounds.specs.declared.rounds.RoundEnd.TheVariants as ends
+use Rattle.sat_sessions.specs.Draws.{as_moment}
+use Rattle.sat_sessions.specs.declared.rounds.RoundEnd.{RoundEnd}
+use Rattle.sat_sessions.specs.declared.rounds.RoundEnd.TheVariants as ends
 use Rattle.node_asks.specs.Asks.{at_of, pieces_of}
 use Rattle.node_asks.specs.Hearing.{fetched_in}
 use Rattle.node_asks.specs.declared.remaking.Heeded.{Heeded}
@@ -64,7 +66,7 @@ share_checked : (b : Bool) → silent_check (if b then checks.Pass else checks.F
 share_checked true = refl
 share_checked false = refl
 
-check_silent : (expect : List ℕ) (fetched : Fetched) (old new : ℕ) → is_wanting fetched ≡ false → CountsExactly (is_unanswered fetched) old new → new < 2 ^ 64 - 1 → old + silent_check (checked expect fetched) ≤ new
+check_silent : (expect : List ℕ) (fetched : Fetched) (old new : ℕ) → is_out_of_memory fetched ≡ false → CountsExactly (is_unanswered fetched) old new → new < 2 ^ 64 - 1 → old + silent_check (checked expect fetched) ≤ new
 check_silent expect (fetches.Share bytes) old new given counts small = let none = share_checked (bytes_eq (sha256 bytes) expect) in omega (arith, none, counts)
 check_silent expect fetches.Missing old new given counts small = omega (arith, counts)
 check_silent expect fetches.NoAnswer old new given counts small = omega (arith, counts.1, small)

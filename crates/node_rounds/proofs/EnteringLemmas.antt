@@ -1,9 +1,10 @@
 -- The calls of a round are well formed.
 use Rattle.std.proofs.Common.{◌≡◌, ℕ, ◌<◌, ◌^◌, List, length, Option, Some, None, sym, subst}
-use Rattle.std.specs.Prelude.{IsSome}
+use Rattle.std.specs.Prelude.{IsSome, IsSomeAnd}
 use Rattle.sat_base.specs.declared.scheme.Scheme.{Scheme}
 use Rattle.repair_core.specs.declared.outcome.RepairOutcome.TheVariants as repairs
 use Rattle.machine_calls.specs.declared.call.Call.TheVariants as calls
+use Rattle.machine_calls.specs.declared.task.Task.TheVariants as tasks
 use Rattle.machine_step.specs.Step.{IsSchemeOf, IsWellFormed}
 use Rattle.machine_step.specs.Tables.{Tables}
 use Rattle.sat_book.specs.Book.{MayEnter, start_of}
@@ -41,6 +42,6 @@ pub may_end : {K : Type 0} (base : Option (Origin K)) (secret : List ℕ) (schem
 may_end None secret scheme found now own is timely = absurd own
 may_end (Some origin) secret scheme found now own is timely = end_formed (start_of origin.opening) scheme found now own.scheme_is is timely
 
-pub may_tally : {K : Type 0} (base : Option (Origin K)) (now : ℕ) → IsSome base → now < 2 ^ 36 → MayEnter base (calls.TallyHour now)
+pub may_tally : {K : Type 0} (base : Option (Origin K)) (now : ℕ) → IsSome base → now < 2 ^ 36 → MayEnter base (calls.Own now tasks.TallyHour)
 may_tally None now some timely = absurd (cc)
 may_tally (Some origin) now some timely = record { formed = record { timely = timely; words = tt; bytes = tt; tariff = tt }; scheme = tt }

@@ -1,9 +1,11 @@
 -- Each accepted end of a round holds the plan that was open.
-use Rattle.std.proofs.Common.{◌≡◌, ℕ, List, [], ◌∷◌, true, false, Option, Some, None, sym, ap, ◌∙◌, refl}
+use Rattle.std.proofs.Common.{◌≡◌, ℕ, List, [], ◌∷◌, Bool, true, false, Option, Some, None, sym, ap, ◌∙◌, refl}
+use Rattle.std.specs.Prelude.{IsSomeAnd}
 use Rattle.turnstile.specs.History.{Each}
 use Rattle.desk_runs.specs.Entered.{At}
 use Rattle.machine_calls.specs.declared.call.Call.{Call}
 use Rattle.machine_calls.specs.declared.call.Call.TheVariants as calls
+use Rattle.machine_calls.specs.declared.task.Task.TheVariants as tasks
 use Rattle.machine_calls.specs.declared.reply.Reply.{Reply}
 use Rattle.machine_calls.specs.declared.reply.Reply.TheVariants as replies
 use Rattle.machine_calls.specs.Replies.{is_lost}
@@ -15,9 +17,9 @@ use Rattle.sat_base.specs.declared.scheme.Scheme.{Scheme}
 use Rattle.sat_book.specs.Book.{AreOf, start_of}
 use Rattle.sat_book.specs.Legal.{E, IsHistory}
 use Rattle.sat_book.specs.declared.opening.Origin.{Origin}
-use Rattle.sat_rounds.specs.Good.{tables_at}
-use Rattle.sat_rounds.specs.Sessions.{V}
-use Rattle.sat_rounds.proofs.Legality.{right_at}
+use Rattle.sat_sessions.specs.Good.{tables_at}
+use Rattle.sat_sessions.specs.Sessions.{V}
+use Rattle.sat_sessions.proofs.Legality.{right_at}
 use Rattle.node_rounds.specs.Calls.{AreLawful}
 use Rattle.node_rounds.specs.Held.{HoldOpen, HoldsOpen}
 use Rattle.node_rounds.proofs.Answering.{OfStore}
@@ -28,10 +30,10 @@ accepted_kept replies.NoMemory is = absurd cc
 accepted_kept _ is = refl
 
 holds_by_step : (t : Tables) (call : Call) (reply : Reply) → (is_lost reply ≡ false → reply ≡ (step t call).reply) → HoldsOpen t call reply
-holds_by_step t (calls.EndAudit now judged) reply right = λ is. audit_holds t now judged (ap is_accepted (sym (right (accepted_kept reply is))) ∙ is)
-holds_by_step t (calls.EndRecheck now plan checked) reply right = λ is. recheck_holds t now plan checked (ap is_accepted (sym (right (accepted_kept reply is))) ∙ is)
-holds_by_step t (calls.EndRepair now outcome) reply right = λ is. repair_holds t now outcome (ap is_accepted (sym (right (accepted_kept reply is))) ∙ is)
-holds_by_step t (calls.EndExit now outcome) reply right = λ is. exit_holds t now outcome (ap is_accepted (sym (right (accepted_kept reply is))) ∙ is)
+holds_by_step t (calls.Own now (tasks.EndAudit judged)) reply right = λ is. audit_holds t now judged (ap is_accepted (sym (right (accepted_kept reply is))) ∙ is)
+holds_by_step t (calls.Own now (tasks.EndRecheck plan checked)) reply right = λ is. recheck_holds t now plan checked (ap is_accepted (sym (right (accepted_kept reply is))) ∙ is)
+holds_by_step t (calls.Own now (tasks.EndRepair outcome)) reply right = λ is. repair_holds t now outcome (ap is_accepted (sym (right (accepted_kept reply is))) ∙ is)
+holds_by_step t (calls.Own now (tasks.EndExit outcome)) reply right = λ is. exit_holds t now outcome (ap is_accepted (sym (right (accepted_kept reply is))) ∙ is)
 holds_by_step t _ reply right = tt
 
 each_holds : {K : Type 0} (origin : Origin K) (history new : List E) → IsHistory (start_of origin.opening) origin.opening.faults history → Each (λ e. At history e.place e) new

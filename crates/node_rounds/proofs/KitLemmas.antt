@@ -9,11 +9,11 @@ use Rattle.sat_book.specs.Book.{opening_of}
 use Rattle.sat_book.specs.Legal.{E}
 use Rattle.sat_book.specs.declared.opening.Opening.{Opening}
 use Rattle.sat_book.specs.declared.opening.Origin.{Origin}
-use Rattle.sat_rounds.specs.Rounds.{RoundDoes, is_full_end}
-use Rattle.sat_rounds.specs.Sessions.{V}
-use Rattle.sat_rounds.specs.declared.rounds.Round.{Round}
-use Rattle.sat_rounds.specs.declared.rounds.RoundEnd.{RoundEnd}
-use Rattle.sat_rounds.specs.declared.rounds.RoundEnd.TheVariants as ends
+use Rattle.sat_sessions.specs.Rounds.{RoundDoes, is_full_end}
+use Rattle.sat_sessions.specs.Sessions.{V}
+use Rattle.sat_sessions.specs.declared.rounds.Round.{Round}
+use Rattle.sat_sessions.specs.declared.rounds.RoundEnd.{RoundEnd}
+use Rattle.sat_sessions.specs.declared.rounds.RoundEnd.TheVariants as ends
 use Rattle.node_rounds.specs.Askable.{IsStoreOf}
 use Rattle.node_rounds.specs.Calls.{IfFull}
 use Rattle.node_rounds.specs.Kits.{Tells}

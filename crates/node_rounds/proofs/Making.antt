@@ -1,20 +1,21 @@
 -- The entries that a part makes, and their places.
-use Rattle.std.proofs.Common.{◌≡◌, ℕ, ◌+◌, ◌≤◌, List, [], ◌∷◌, ◌++◌, Option, Some, None, Ok, Err, refl, sym, ap, ◌∙◌, subst, append_assoc, append-nil}
-use Rattle.std.specs.Prelude.{map}
+use Rattle.std.proofs.Common.{◌≡◌, ℕ, ◌+◌, ◌≤◌, List, [], ◌∷◌, ◌++◌, length, Option, Some, None, Result, Ok, Err, refl, sym, ap, ◌∙◌, subst, append_assoc, append-nil, arith, length-append}
+use Rattle.std.specs.Prelude.{map, vec_capacity}
 use Rattle.std.specs.Global.{Vec}
 use mathlib.Core.List.{map-append}
 use Rattle.turnstile.specs.Entry.{entry_of}
 use Rattle.turnstile.specs.History.{Each, StartsWith}
-use Rattle.desk_runs.specs.Entered.{At, Entered, place_of}
+use Rattle.turnstile.specs.Known.{Enters, with_mark}
+use Rattle.desk_runs.specs.Entered.{At, Entered, Marked, place_of}
 use Rattle.desk_runs.proofs.Entering.{at_later, entered_full, entered_more, entered_none, entered_one, marked_full, stands}
 use Rattle.machine_calls.specs.declared.call.Call.{Call}
 use Rattle.machine_calls.specs.declared.reply.Reply.{Reply}
 use Rattle.sat_book.specs.Book.{AreOf}
 use Rattle.sat_book.specs.Legal.{E}
 use Rattle.sat_book.specs.declared.opening.Origin.{Origin}
-use Rattle.sat_rounds.specs.Sessions.{V}
-use Rattle.sat_rounds.specs.declared.rounds.RoundEnd.{RoundEnd}
-use Rattle.sat_rounds.specs.declared.rounds.RoundEnd.TheVariants as ends
+use Rattle.sat_sessions.specs.Sessions.{V}
+use Rattle.sat_sessions.specs.declared.rounds.RoundEnd.{RoundEnd}
+use Rattle.sat_sessions.specs.declared.rounds.RoundEnd.TheVariants as ends
 use Rattle.node_rounds.specs.Calls.{AreLawful, IfFull, Makes, Names, Turns}
 
 pub names_none : (v : Vec ℕ) → Names [] v v

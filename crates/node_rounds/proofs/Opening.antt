@@ -1,14 +1,14 @@
 -- What comes of entering a plan or its end, put together.
-use Rattle.std.proofs.Common.{◌≡◌, ℕ, List, [], ◌∷◌, length, Option, Result, Ok, Err, refl, ap, ◌∙◌, subst}
+use Rattle.std.proofs.Common.{◌≡◌, ℕ, List, [], ◌∷◌, length, Option, Some, None, Result, Ok, Err, refl, sym, ap, ◌∙◌, subst}
 use Rattle.std.specs.Global.{Vec}
 use Rattle.sat_base.specs.Clock.{or_zero}
 use Rattle.sat_base.specs.Outside.{with_front}
 use Rattle.machine_calls.specs.declared.call.Call.{Call}
 use Rattle.machine_calls.specs.declared.reply.Reply.{Reply}
-use Rattle.sat_rounds.specs.Draws.{as_moment}
-use Rattle.sat_rounds.specs.Sessions.{V}
-use Rattle.sat_rounds.specs.declared.rounds.RoundEnd.{RoundEnd}
-use Rattle.sat_rounds.specs.declared.rounds.RoundEnd.TheVariants as ends
+use Rattle.sat_sessions.specs.Draws.{as_moment}
+use Rattle.sat_sessions.specs.Sessions.{V}
+use Rattle.sat_sessions.specs.declared.rounds.RoundEnd.{RoundEnd}
+use Rattle.sat_sessions.specs.declared.rounds.RoundEnd.TheVariants as ends
 use Rattle.node_rounds.specs.declared.upkeep.Found.{Found}
 use Rattle.node_rounds.specs.declared.upkeep.Upkeep.{Upkeep}
 use Rattle.node_rounds.specs.Calls.{Turns}

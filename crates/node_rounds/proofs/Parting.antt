@@ -1,5 +1,5 @@
 -- One part of a round, put together.
-use Rattle.std.proofs.Common.{◌≡◌, ℕ, ◌+◌, ◌<◌, ◌≤◌, List, [], ◌∷◌, length, Bool, true, false, Option, Some, None, Result, Ok, Err, refl, sym, ap, ◌∙◌, subst, arith, length-append}
+use Rattle.std.proofs.Common.{◌≡◌, ℕ, ◌+◌, ◌<◌, ◌≤◌, List, [], ◌∷◌, ◌++◌, length, Bool, true, false, Option, Some, None, Result, Ok, Err, refl, sym, ap, ◌∙◌, subst, arith, length-append}
 use Rattle.std.specs.Prelude.{map, vec_capacity}
 use Rattle.std.specs.Global.{Vec}
 use Rattle.std.proofs.lemmas.List.{length-map}
@@ -14,15 +14,15 @@ use Rattle.machine_calls.specs.declared.reply.Reply.{Reply}
 use Rattle.sat_book.specs.Book.{AreOf}
 use Rattle.sat_book.specs.Legal.{E}
 use Rattle.sat_book.specs.declared.opening.Origin.{Origin}
-use Rattle.sat_rounds.specs.Draws.{as_moment}
-use Rattle.sat_rounds.specs.Sessions.{V}
-use Rattle.sat_rounds.specs.declared.rounds.RoundEnd.{RoundEnd}
-use Rattle.sat_rounds.specs.declared.rounds.RoundEnd.TheVariants as ends
+use Rattle.sat_sessions.specs.Draws.{as_moment}
+use Rattle.sat_sessions.specs.Sessions.{V}
+use Rattle.sat_sessions.specs.declared.rounds.RoundEnd.{RoundEnd}
+use Rattle.sat_sessions.specs.declared.rounds.RoundEnd.TheVariants as ends
 use Rattle.node_rounds.specs.Askable.{IsAskable}
-use Rattle.node_rounds.specs.Calls.{IfFull, Names, Turns}
+use Rattle.node_rounds.specs.Calls.{IfFull, Makes, Names, Turns}
 use Rattle.node_rounds.specs.Entering.{FailsToOpen, Finishes, Opens, went_after}
-use Rattle.node_rounds.specs.Parts.{S, Asks, Follows, Part, Planned, Timed}
-use Rattle.node_rounds.specs.Upkeep.{end_call, is_plan_of, is_refusal_to_stop, plan_call, stops_by, went_at}
+use Rattle.node_rounds.specs.Parts.{S, Asks, FailsToDraw, Follows, Part, Planned, Timed}
+use Rattle.node_rounds.specs.Upkeep.{end_call, is_plan_of, is_refusal_to_stop, plan_call, stops_by, went_at, words_of}
 use Rattle.node_rounds.specs.Works.{Does}
 use Rattle.node_rounds.specs.declared.upkeep.Found.{Found}
 use Rattle.node_rounds.specs.declared.upkeep.Upkeep.{Upkeep}
@@ -97,7 +97,7 @@ module _ {K : Type 0} (secret : List ℕ) (scheme : Scheme) (kind : Upkeep) wher
         (subst (λ (b : Bool). Follows secret scheme b reply s' [] (went_at reply) s') (sym is) (refl, refl, refl));
   }
 
-  -- memory was wanting as its nodes were asked
+  -- memory ran out as its nodes were asked
   pub does_stopped : (s : S) (k : V K) (reply : Reply) (ready : S) (k' : V K) (old new : Vec ℕ) (none : NoRoom) (s' : S) → Opens kind s k (Ok reply) ready k' old new → is_plan_of kind reply ≡ true
       → Asks secret scheme reply ready (Err none) s' → Does secret scheme kind s k (Some ends.NoMemory) s' k' old new
   does_stopped s k reply ready k' old new none s' opens is asks = record {

@@ -1,6 +1,6 @@
 -- What a recheck says of what its node holds.
-use Rattle.std.proofs.Common.{◌≡◌, ℕ, Bool, true, false, List, Option, Some, None, refl, sym, ap, ◌∙◌, subst, inl, inr}
-use Rattle.std.specs.Prelude.{if◌then◌else◌, option_map}
+use Rattle.std.proofs.Common.{◌≡◌, ℕ, Bool, true, false, List, Option, Some, refl, sym, ap, ◌∙◌, subst, inl, inr}
+use Rattle.std.specs.Prelude.{if◌then◌else◌}
 use Rattle.std.specs.Str.{bytes_eq}
 use Rattle.std.proofs.lemmas.Slice.Eq.{bytes_eq-Decides}
 use Rattle.sha2.specs.Sha256.{sha256}
@@ -15,22 +15,19 @@ use Rattle.sat_base.specs.Outside.{CountsExactly, raised}
 use Rattle.audit_core.specs.declared.rechecking.Checked.{Checked}
 use Rattle.audit_core.specs.declared.rechecking.Checked.TheVariants as checks
 use Rattle.audit_core.specs.declared.rechecking.RecheckPlan.{RecheckPlan}
-use Rattle.audit_core.specs.Heard.{is_wanting}
+use Rattle.audit_core.specs.Heard.{is_out_of_memory}
 use Rattle.audit_core.specs.Recheck.{checked}
 use Rattle.node_asks.specs.Asks.{recheck_ask}
 use Rattle.node_rounds.specs.Asked.{IsRechecked}
 use Rattle.node_rounds.specs.Clauses.{SaysOfHeld}
 use Rattle.node_rounds.specs.declared.kit.NodesView.{NodesView}
+use Rattle.sat_base.proofs.TextLemmas.{map_some}
 
-mapped : {A B : Type 0} (f : A → B) (o : Option A) (y : B) → option_map f o ≡ Some y → (x : A) × (o ≡ Some x) × (f x ≡ y)
-mapped f None y is = absurd (cc)
-mapped f (Some x) y is = (x, refl, (cc))
-
-says : (pieces : List Held) (ask : Ask) (expect : List ℕ) (fetched : Fetched) → is_wanting fetched ≡ false → Fetches (Some pieces) ask fetched → SaysOfHeld pieces ask expect (checked expect fetched)
+says : (pieces : List Held) (ask : Ask) (expect : List ℕ) (fetched : Fetched) → is_out_of_memory fetched ≡ false → Fetches (Some pieces) ask fetched → SaysOfHeld pieces ask expect (checked expect fetched)
 says pieces ask expect (fetches.Share bytes) given told = go (bytes_eq (sha256 bytes) expect) refl
   where
     there : (whole : List ℕ) × (asked_of pieces ask ≡ Some whole) × (range_of ask whole ≡ bytes)
-    there = mapped (range_of ask) (asked_of pieces ask) bytes told
+    there = map_some (range_of ask) (asked_of pieces ask) bytes told
 
     go : (b : Bool) → bytes_eq (sha256 bytes) expect ≡ b → SaysOfHeld pieces ask expect (if b then checks.Pass else checks.Fail)
     go true is = (there.0, there.1, ap sha256 there.2 ∙ (bytes_eq-Decides (sha256 bytes) expect).0 is)
@@ -46,7 +43,7 @@ says_of_held secret scheme plan place old found new pieces is told =
     subst (SaysOfHeld pieces ask plan.expect) (sym is.found_is)
     (says pieces ask plan.expect is.fetched is.given (subst (λ (o : Option (List Held)). Fetches o ask is.fetched) told is.told))
 
-rose : (expect : List ℕ) (fetched : Fetched) (old new : ℕ) → is_wanting fetched ≡ false → CountsExactly (is_unanswered fetched) old new → checked expect fetched ≡ checks.Silent → new ≡ raised old
+rose : (expect : List ℕ) (fetched : Fetched) (old new : ℕ) → is_out_of_memory fetched ≡ false → CountsExactly (is_unanswered fetched) old new → checked expect fetched ≡ checks.Silent → new ≡ raised old
 rose expect (fetches.Share bytes) old new given counts silent = go (bytes_eq (sha256 bytes) expect) silent
   where
     go : (b : Bool) → (if b then checks.Pass else checks.Fail) ≡ checks.Silent → new ≡ raised old

@@ -1,5 +1,5 @@
 -- The moments and words of a part's calls, among those that its kit gave.
-use Rattle.std.proofs.Common.{◌≡◌, ℕ, List, [], ◌∷◌, ◌++◌, Bool, true, false, Option, Some, None, refl, sym, ap, ◌∙◌, subst, inl, append-nil}
+use Rattle.std.proofs.Common.{◌≡◌, ℕ, List, [], ◌∷◌, ◌++◌, Bool, true, false, Option, Some, None, Ok, Err, refl, sym, ap, ◌∙◌, subst, inl, append-nil}
 use Rattle.sat_base.specs.declared.scheme.Scheme.{Scheme}
 use Rattle.sat_base.specs.Clock.{or_zero}
 use Rattle.sat_base.specs.Outside.{with_front}
@@ -7,12 +7,12 @@ use Rattle.sat_base.proofs.Told.{with_front-none}
 use Rattle.machine_calls.specs.declared.call.Call.{Call}
 use Rattle.machine_calls.specs.declared.reply.Reply.{Reply}
 use Rattle.sat_book.specs.Legal.{E}
-use Rattle.sat_rounds.specs.Draws.{Draws, Gives, IsAmong, as_moment, moments_in, words_in}
-use Rattle.sat_rounds.specs.Rounds.{KitView, told_of_kit}
-use Rattle.sat_rounds.specs.declared.rounds.RoundEnd.{RoundEnd}
-use Rattle.sat_rounds.specs.declared.rounds.RoundEnd.TheVariants as ends
-use Rattle.sat_rounds.proofs.Among.{draws_nothing, draws_then}
-use Rattle.node_rounds.specs.Parts.{S, Follows, Lacked, Part, Readied, Timed}
+use Rattle.sat_sessions.specs.Draws.{Draws, Gives, IsAmong, as_moment, moments_in, words_in}
+use Rattle.sat_sessions.specs.Rounds.{KitView, told_of_kit}
+use Rattle.sat_sessions.specs.declared.rounds.RoundEnd.{RoundEnd}
+use Rattle.sat_sessions.specs.declared.rounds.RoundEnd.TheVariants as ends
+use Rattle.sat_sessions.proofs.Among.{draws_nothing, draws_then}
+use Rattle.node_rounds.specs.Parts.{S, Drew, Ends, Follows, Lacked, Part, Plans, Readied, Timed}
 use Rattle.node_rounds.specs.Upkeep.{end_call, is_plan_of, plan_call}
 use Rattle.node_rounds.specs.Works.{Goes, Works}
 use Rattle.node_rounds.specs.declared.upkeep.Found.{Found}
@@ -63,12 +63,6 @@ draw_at {N} s moment s' call e timed is moments words = record {
   words = subst (λ (c : Call). IsAmong (words_in c ++ []) []) (sym is) words;
 }
 
-moments_at_end : (found : Found) (m : ℕ) → IsAmong (moments_in (end_call found m) ++ []) (m ∷ [])
-moments_at_end (founds.Recheck plan checked) m = inl (refl, tt)
-moments_at_end (founds.Audit judged) m = inl (refl, tt)
-moments_at_end (founds.Repair outcome) m = inl (refl, tt)
-moments_at_end (founds.Exit outcome) m = inl (refl, tt)
-
 words_at_end : (found : Found) (m : ℕ) → IsAmong (words_in (end_call found m) ++ []) []
 words_at_end (founds.Recheck plan checked) m = tt
 words_at_end (founds.Audit judged) m = tt
@@ -77,13 +71,7 @@ words_at_end (founds.Exit outcome) m = tt
 
 draw_end : (s : S) (moment : ℕ) (s' : S) (found : Found) (e : E) → Timed s moment s' → e.call ≡ end_call found (as_moment moment) → Draw s (e ∷ []) s'
 draw_end s moment s' found e timed call =
-    draw_at s moment s' (end_call found (as_moment moment)) e timed call (moments_at_end found (as_moment moment)) (words_at_end found (as_moment moment))
-
-moments_at_plan : (kind : Upkeep) (m : ℕ) (words : List ℕ) → IsAmong (moments_in (plan_call kind m words) ++ []) (m ∷ [])
-moments_at_plan kinds.Recheck m words = inl (refl, tt)
-moments_at_plan kinds.Audit m words = inl (refl, tt)
-moments_at_plan kinds.Repair m words = inl (refl, tt)
-moments_at_plan kinds.Exit m words = inl (refl, tt)
+    draw_at s moment s' (end_call found (as_moment moment)) e timed call (inl (refl, tt)) (words_at_end found (as_moment moment))
 
 words_at_plan : (kind : Upkeep) (m : ℕ) (words : List ℕ) → IsAmong (words_in (plan_call kind m words) ++ []) words
 words_at_plan kinds.Recheck m words = tt
@@ -109,7 +97,7 @@ draw_plan : (kind : Upkeep) (s : S) (drawn : List ℕ) (moment : ℕ) (s' : S) (
 draw_plan kind s drawn moment s' p r call = record {
   gave = moment ∷ [];
   gives = gives_one s moment r.between s' (ap (λ (z : S). z.coming) r.drew.rest) r.timed;
-  moments = subst (λ (c : Call). IsAmong (moments_in c ++ []) (as_moment moment ∷ [])) (sym call) (moments_at_plan kind (as_moment moment) drawn);
+  moments = subst (λ (c : Call). IsAmong (moments_in c ++ []) (as_moment moment ∷ [])) (sym call) (inl (refl, tt));
   drew = drawn;
   draws = readied_words kind s drawn moment s' r;
   words = subst (λ (c : Call). IsAmong (words_in c ++ []) drawn) (sym call) (words_at_plan kind (as_moment moment) drawn);

@@ -7,15 +7,16 @@ use Rattle.turnstile.specs.Entry.{entry_of}
 use Rattle.desk_runs.specs.Entered.{place_of}
 use Rattle.desk_runs.specs.Runs.{Lasts}
 use Rattle.machine_calls.specs.declared.call.Call.TheVariants as calls
+use Rattle.machine_calls.specs.declared.task.Task.TheVariants as tasks
 use Rattle.machine_calls.specs.declared.reply.Reply.{Reply}
 use Rattle.sat_book.specs.Legal.{E}
 use Rattle.sat_book.specs.declared.opening.Opening.{Opening}
-use Rattle.sat_rounds.specs.Draws.{as_moment}
-use Rattle.sat_rounds.specs.Rounds.{KitView, RoundDoes}
-use Rattle.sat_rounds.specs.Sessions.{V}
-use Rattle.sat_rounds.specs.declared.rounds.Round.{Round}
-use Rattle.sat_rounds.specs.declared.rounds.RoundEnd.{RoundEnd}
-use Rattle.sat_rounds.specs.declared.rounds.RoundEnd.TheVariants as ends
+use Rattle.sat_sessions.specs.Draws.{as_moment}
+use Rattle.sat_sessions.specs.Rounds.{KitView, RoundDoes}
+use Rattle.sat_sessions.specs.Sessions.{V}
+use Rattle.sat_sessions.specs.declared.rounds.Round.{Round}
+use Rattle.sat_sessions.specs.declared.rounds.RoundEnd.{RoundEnd}
+use Rattle.sat_sessions.specs.declared.rounds.RoundEnd.TheVariants as ends
 use Rattle.node_rounds.specs.Calls.{IfFull, Makes, Turns}
 use Rattle.node_rounds.specs.Parts.{Timed}
 use Rattle.node_rounds.specs.Tally.{TallyRounds, TallyTells, TallyWorks}
@@ -52,22 +53,22 @@ module _ {K : Type 0} where
 
   -- the term is full
   pub tally_full : (s : T) (k : V K) (moment now ticket : ℕ) (answered : Result Reply ℕ) (s' : T) (k' : V K) (old new : Vec ℕ) → old.items ≡ [] → Timed s moment s' → now ≡ as_moment moment → answered ≡ Err ticket
-      → Turns k (calls.TallyHour now) answered k' old new → TallyRounds s k (record { places = new; end = ends.TermFull ticket }) s' k'
+      → Turns k (calls.Own now tasks.TallyHour) answered k' old new → TallyRounds s k (record { places = new; end = ends.TermFull ticket }) s' k'
   tally_full s k moment now ticket answered s' k' old new none timed at is turns =
-      let full = subst (λ (r : Result Reply ℕ). Turns k (calls.TallyHour now) r k' old new) is turns in
-      made s k (record { places = new; end = ends.TermFull ticket }) s' k' [] (Some (ends.TermFull ticket)) old none (makes_full k (calls.TallyHour now) ticket k' old new full) refl (moment, timed)
+      let full = subst (λ (r : Result Reply ℕ). Turns k (calls.Own now tasks.TallyHour) r k' old new) is turns in
+      made s k (record { places = new; end = ends.TermFull ticket }) s' k' [] (Some (ends.TermFull ticket)) old none (makes_full k (calls.Own now tasks.TallyHour) ticket k' old new full) refl (moment, timed)
       (draw_timed s moment s' timed) (ap (λ (z : T). z.ticks) timed.rest)
 
   -- the call was entered, and answered so
   pub tally_one : (s : T) (k : V K) (moment now : ℕ) (reply : Reply) (answered : Result Reply ℕ) (s' : T) (k' : V K) (old new : Vec ℕ) (end : RoundEnd) → old.items ≡ [] → Timed s moment s' → now ≡ as_moment moment → answered ≡ Ok reply
-      → Turns k (calls.TallyHour now) answered k' old new → end ≡ end_of (went_at reply) → TallyRounds s k (record { places = new; end = end }) s' k'
+      → Turns k (calls.Own now tasks.TallyHour) answered k' old new → end ≡ end_of (went_at reply) → TallyRounds s k (record { places = new; end = end }) s' k'
   tally_one s k moment now reply answered s' k' old new end none timed at is turns end_is =
-      let call = calls.TallyHour now in
+      let call = calls.Own now tasks.TallyHour in
       let one = subst (λ (r : Result Reply ℕ). Turns k call r k' old new) is turns in
       let e = entry_of one.0 k.number call reply in
-      let own : e.call ≡ calls.TallyHour (as_moment moment) = ap calls.TallyHour at in
+      let own : e.call ≡ calls.Own (as_moment moment) tasks.TallyHour = ap (λ (m : ℕ). calls.Own m tasks.TallyHour) at in
       made s k (record { places = new; end = end }) s' k' (e ∷ []) (went_at reply) old none (makes_one k call reply k' old new (went_at reply) one (full_at k k' reply)) end_is
-      (record { moment = moment; timed = timed; call = own; end_is = end_is }) (draw_at s moment s' (calls.TallyHour (as_moment moment)) e timed own (inl (refl, tt)) tt) (ap (λ (z : T). z.ticks) timed.rest)
+      (record { moment = moment; timed = timed; call = own; end_is = end_is }) (draw_at s moment s' (calls.Own (as_moment moment) tasks.TallyHour) e timed own (inl (refl, tt)) tt) (ap (λ (z : T). z.ticks) timed.rest)
 
   -- what a round did, from whatever the kit was before its tick
   pub tally_does : (opening : Option Opening) (s : T) (k : V K) (x : Round) (s' : T) (k' : V K) → TallyRounds s k x s' k' → RoundDoes (TallyTells opening) s k x s' k'

@@ -13,7 +13,7 @@ use Rattle.audit_core.specs.declared.plan.Heard.{Heard}
 use Rattle.audit_core.specs.declared.rechecking.Checked.{Checked}
 use Rattle.audit_core.specs.declared.rechecking.RecheckPlan.{RecheckPlan}
 use Rattle.audit_core.specs.declared.verdict.Judged.{Judged}
-use Rattle.audit_core.specs.Heard.{answers_of, is_wanting, missing_of, silent_of}
+use Rattle.audit_core.specs.Heard.{answers_of, is_out_of_memory, missing_of, silent_of}
 use Rattle.audit_core.specs.Recheck.{checked}
 use Rattle.audit_core.specs.Verdict.{silent_indexes}
 use Rattle.repair_core.specs.declared.outcome.RepairOutcome.{RepairOutcome}
@@ -67,7 +67,7 @@ pub record IsRechecked (secret : List ℕ) (scheme : Scheme) (plan : RecheckPlan
   pub fetched : Fetched
   pub told : Fetches old.held (recheck_ask secret scheme plan place) fetched
   pub within : FetchesWithin (recheck_ask secret scheme plan place) fetched
-  pub given : is_wanting fetched ≡ false
+  pub given : is_out_of_memory fetched ≡ false
   pub asks : new.asks ≡ with_end old.asks (recheck_ask secret scheme plan place ∷ [])
   pub counted : CountsExactly (is_unanswered fetched) old.faults new.faults
   pub held : new.held ≡ old.held
@@ -121,7 +121,7 @@ StopsRepairing secret scheme plan sources targets old new = StopsGathering secre
 -- ---- whatever was planned
 
 module _ (secret : List ℕ) (scheme : Scheme) where
-  -- the nodes of the reply's plan were asked, and this is what was found; or memory was wanting
+  -- the nodes of the reply's plan were asked, and this is what was found; or memory ran out
   abbrev pub Finds : Reply → NodesView → Result Found NoMemory → NodesView → Type 0
   Finds (replies.AuditPlanned plan places) old (Ok (founds.Audit judged)) new = IsAudited secret scheme plan places old judged new
   Finds (replies.AuditPlanned plan places) old (Err none) new = StopsAuditing secret scheme plan places old new

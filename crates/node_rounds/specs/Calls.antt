@@ -1,5 +1,5 @@
 -- What one call at the desk leaves of a pass and of the places that a round names.
-use Rattle.std.specs.Prelude.{◌≡◌, ℕ, ◌+◌, ◌≤◌, List, [], ◌∷◌, ◌++◌, map, Option, Some, Result, Ok, Err, vec_capacity}
+use Rattle.std.specs.Prelude.{◌≡◌, ℕ, ◌+◌, ◌≤◌, List, [], ◌∷◌, ◌++◌, length, map, Option, Some, None, Result, Ok, Err, vec_capacity}
 use Rattle.std.specs.Global.{Vec}
 use Rattle.turnstile.specs.History.{Each}
 use Rattle.turnstile.specs.Known.{Enters, with_mark}
@@ -8,9 +8,9 @@ use Rattle.machine_calls.specs.declared.call.Call.{Call}
 use Rattle.machine_calls.specs.declared.reply.Reply.{Reply}
 use Rattle.sat_book.specs.Book.{AreOf}
 use Rattle.sat_book.specs.Legal.{E}
-use Rattle.sat_rounds.specs.Sessions.{V}
-use Rattle.sat_rounds.specs.declared.rounds.RoundEnd.{RoundEnd}
-use Rattle.sat_rounds.specs.declared.rounds.RoundEnd.TheVariants as ends
+use Rattle.sat_sessions.specs.Sessions.{V}
+use Rattle.sat_sessions.specs.declared.rounds.RoundEnd.{RoundEnd}
+use Rattle.sat_sessions.specs.declared.rounds.RoundEnd.TheVariants as ends
 
 -- the places that are named: so many more, in the room that there was
 pub record Names (more : List ℕ) (old new : Vec ℕ) : Type 0 where

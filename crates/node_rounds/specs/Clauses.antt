@@ -1,5 +1,5 @@
 -- What the ends of a round say of its nodes.
-use Rattle.std.specs.Prelude.{◌≡◌, ◌⊎◌, ℕ, ◌+◌, ◌-◌, ◌^◌, ◌<◌, ◌≤◌, List, length, Some, None}
+use Rattle.std.specs.Prelude.{◌≡◌, ◌⊎◌, ℕ, ◌+◌, ◌-◌, ◌^◌, ◌<◌, ◌≤◌, List, length, Option, Some, None}
 use Rattle.sha2.specs.Sha256.{sha256}
 use Rattle.sat_base.specs.declared.nodes.Ask.{Ask}
 use Rattle.sat_base.specs.declared.nodes.Held.{Held}
@@ -11,6 +11,7 @@ use Rattle.repair_core.specs.declared.outcome.RepairOutcome.{RepairOutcome}
 use Rattle.repair_core.specs.declared.outcome.RepairOutcome.TheVariants as repairs
 use Rattle.machine_calls.specs.declared.call.Call.{Call}
 use Rattle.machine_calls.specs.declared.call.Call.TheVariants as calls
+use Rattle.machine_calls.specs.declared.task.Task.TheVariants as tasks
 use Rattle.sat_book.specs.Legal.{E}
 
 -- the targets of a mended repair that aren't told as placed
@@ -24,10 +25,10 @@ silent_check _ = 0
 
 -- the nodes that an end calls silent, or at which it tells no piece as placed
 abbrev pub unanswered_in : Call → ℕ
-unanswered_in (calls.EndAudit now judged) = length judged.silent
-unanswered_in (calls.EndRecheck now plan checked) = silent_check checked
-unanswered_in (calls.EndRepair now outcome) = left_out_of outcome
-unanswered_in (calls.EndExit now outcome) = left_out_of outcome
+unanswered_in (calls.Own now (tasks.EndAudit judged)) = length judged.silent
+unanswered_in (calls.Own now (tasks.EndRecheck plan checked)) = silent_check checked
+unanswered_in (calls.Own now (tasks.EndRepair outcome)) = left_out_of outcome
+unanswered_in (calls.Own now (tasks.EndExit outcome)) = left_out_of outcome
 unanswered_in _ = 0
 
 -- they number at most the rise of a count that doesn't end at its last value

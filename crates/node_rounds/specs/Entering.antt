@@ -1,20 +1,20 @@
 -- What comes of entering a plan, and of entering its end.
-use Rattle.std.specs.Prelude.{◌≡◌, ℕ, List, [], ◌∷◌, Option, Some, Result, Ok, Err}
+use Rattle.std.specs.Prelude.{◌≡◌, ℕ, ◌≤◌, List, [], ◌∷◌, Option, Some, None, Result, Ok, Err}
 use Rattle.std.specs.Global.{Vec}
 use Rattle.sat_base.specs.Clock.{or_zero}
 use Rattle.sat_base.specs.Outside.{with_front}
 use Rattle.machine_calls.specs.declared.reply.Reply.{Reply}
-use Rattle.sat_rounds.specs.Draws.{as_moment}
-use Rattle.sat_rounds.specs.Sessions.{V}
-use Rattle.sat_rounds.specs.declared.rounds.RoundEnd.{RoundEnd}
-use Rattle.sat_rounds.specs.declared.rounds.RoundEnd.TheVariants as ends
+use Rattle.sat_sessions.specs.Draws.{as_moment}
+use Rattle.sat_sessions.specs.Sessions.{V}
+use Rattle.sat_sessions.specs.declared.rounds.RoundEnd.{RoundEnd}
+use Rattle.sat_sessions.specs.declared.rounds.RoundEnd.TheVariants as ends
 use Rattle.node_rounds.specs.declared.upkeep.Found.{Found}
 use Rattle.node_rounds.specs.declared.upkeep.Upkeep.{Upkeep}
-use Rattle.node_rounds.specs.Calls.{Turns}
+use Rattle.node_rounds.specs.Calls.{Names, Turns}
 use Rattle.node_rounds.specs.Parts.{S, FailsToDraw, Readied}
 use Rattle.node_rounds.specs.Upkeep.{end_call, plan_call, went_at, words_of}
 
--- words were wanting, or the term is full
+-- words ran out, or the term is full
 abbrev pub FailsToOpen : {K : Type 0} → Upkeep → S → V K → RoundEnd → S → V K → Vec ℕ → Vec ℕ → Type 0
 FailsToOpen kind s k (ends.TermFull ticket) s' k' old new =
     (drawn : List ℕ) × (moment : ℕ) × Readied kind s drawn moment s' × Turns k (plan_call kind (as_moment moment) drawn) (Err ticket) k' old new

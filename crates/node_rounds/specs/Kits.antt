@@ -1,11 +1,11 @@
 -- What is told of each round of a worker.
-use Rattle.std.specs.Prelude.{List, Option, IsSomeAnd}
+use Rattle.std.specs.Prelude.{◌≡◌, ℕ, List, Bool, Option, IsSomeAnd}
 use Rattle.sat_base.specs.declared.scheme.Scheme.{Scheme}
 use Rattle.machine_step.specs.Step.{IsSchemeOf}
 use Rattle.sat_book.specs.Book.{start_of}
 use Rattle.sat_book.specs.Legal.{E}
 use Rattle.sat_book.specs.declared.opening.Opening.{Opening}
-use Rattle.sat_rounds.specs.declared.rounds.Round.{Round}
+use Rattle.sat_sessions.specs.declared.rounds.Round.{Round}
 use Rattle.node_rounds.specs.declared.upkeep.Upkeep.{Upkeep}
 use Rattle.node_rounds.specs.Parts.{S}
 use Rattle.node_rounds.specs.Works.{Works}

@@ -7,10 +7,10 @@ use Rattle.sat_base.specs.Outside.{CountsExactly, with_front}
 use Rattle.sat_base.specs.Ticks.{TicksView}
 use Rattle.machine_calls.specs.declared.reply.Reply.{Reply}
 use Rattle.sat_book.specs.Legal.{E}
-use Rattle.sat_rounds.specs.Draws.{as_moment}
-use Rattle.sat_rounds.specs.Rounds.{KitView}
-use Rattle.sat_rounds.specs.declared.rounds.RoundEnd.{RoundEnd}
-use Rattle.sat_rounds.specs.declared.rounds.RoundEnd.TheVariants as ends
+use Rattle.sat_sessions.specs.Draws.{as_moment}
+use Rattle.sat_sessions.specs.Rounds.{KitView}
+use Rattle.sat_sessions.specs.declared.rounds.RoundEnd.{RoundEnd}
+use Rattle.sat_sessions.specs.declared.rounds.RoundEnd.TheVariants as ends
 use Rattle.node_rounds.specs.declared.kit.Kit.{Kit}
 use Rattle.node_rounds.specs.declared.kit.NodesView.{NodesView}
 use Rattle.node_rounds.specs.declared.upkeep.Found.{Found}
@@ -48,7 +48,7 @@ pub record Timed {N : Type 0} (s : KitView N) (moment : ℕ) (s' : KitView N) : 
 
 -- ---- a part
 
--- words were wanting, or memory for them
+-- words ran out, or memory for them
 abbrev pub FailsToDraw : ℕ → S → RoundEnd → S → Type 0
 FailsToDraw number s ends.NoMemory s' = s' ≡ s
 FailsToDraw number s ends.WordsFault s' = Lacked number s s'
@@ -82,7 +82,7 @@ module _ (secret : List ℕ) (scheme : Scheme) where
     pub call : e.call ≡ end_call found (as_moment moment)
     pub went_is : went ≡ went_at e.reply
 
-  -- it wasn't, and why: memory was wanting, or the term is full
+  -- it wasn't, and why: memory ran out, or the term is full
   abbrev pub Unended : Reply → S → Option RoundEnd → S → Type 0
   Unended reply s (Some ends.NoMemory) s' = (none : NoRoom) × Asks reply s (Err none) s'
   Unended reply s (Some (ends.TermFull ticket)) s' = (found : Found) × (between : S) × (moment : ℕ) × Asks reply s (Ok found) between × Timed between moment s'

@@ -4,14 +4,15 @@ use Rattle.sat_base.specs.Ticks.{TicksView}
 use Rattle.turnstile.specs.History.{Each}
 use Rattle.desk_runs.specs.Entered.{At, Entered, place_of}
 use Rattle.machine_calls.specs.declared.call.Call.TheVariants as calls
+use Rattle.machine_calls.specs.declared.task.Task.TheVariants as tasks
 use Rattle.sat_book.specs.Legal.{E}
 use Rattle.sat_book.specs.declared.opening.Opening.{Opening}
-use Rattle.sat_rounds.specs.Draws.{Draws, as_moment}
-use Rattle.sat_rounds.specs.Rounds.{KitView, round_places, told_of_kit}
-use Rattle.sat_rounds.specs.Sessions.{V}
-use Rattle.sat_rounds.specs.declared.rounds.Round.{Round}
-use Rattle.sat_rounds.specs.declared.rounds.RoundEnd.{RoundEnd}
-use Rattle.sat_rounds.specs.declared.rounds.RoundEnd.TheVariants as ends
+use Rattle.sat_sessions.specs.Draws.{Draws, as_moment}
+use Rattle.sat_sessions.specs.Rounds.{KitView, round_places, told_of_kit}
+use Rattle.sat_sessions.specs.Sessions.{V}
+use Rattle.sat_sessions.specs.declared.rounds.Round.{Round}
+use Rattle.sat_sessions.specs.declared.rounds.RoundEnd.{RoundEnd}
+use Rattle.sat_sessions.specs.declared.rounds.RoundEnd.TheVariants as ends
 use Rattle.node_rounds.specs.Calls.{AreLawful, IfFull}
 use Rattle.node_rounds.specs.Parts.{Timed}
 use Rattle.node_rounds.specs.Upkeep.{end_of, went_at}
@@ -21,7 +22,7 @@ use Rattle.node_rounds.specs.declared.tally.TallyKit.{TallyKit}
 abbrev pub tally_view : {T I : Type 0} → (T → Option (List ℕ)) → (I → TicksView) → TallyKit T I → KitView (Unit {0})
 tally_view coming about kit = record { nodes = tt; coming = coming kit.clock; words = Some []; words_faults = 0; ticks = about kit.ticks }
 
--- why nothing was entered: the term is full at a moment of the clock, or memory was wanting before one was taken
+-- why nothing was entered: the term is full at a moment of the clock, or memory ran out before one was taken
 abbrev pub Untallied : KitView (Unit {0}) → RoundEnd → KitView (Unit {0}) → Type 0
 Untallied s (ends.TermFull ticket) s' = (moment : ℕ) × Timed s moment s'
 Untallied s ends.NoMemory s' = s' ≡ s
@@ -31,7 +32,7 @@ Untallied s _ s' = ⊥
 pub record Tallied (s : KitView (Unit {0})) (e : E) (end : RoundEnd) (s' : KitView (Unit {0})) : Type 0 where
   pub moment : ℕ
   pub timed : Timed s moment s'
-  pub call : e.call ≡ calls.TallyHour (as_moment moment)
+  pub call : e.call ≡ calls.Own (as_moment moment) tasks.TallyHour
   pub end_is : end ≡ end_of (went_at e.reply)
 
 -- what a round did: at most one entry, and how it ended

@@ -2,11 +2,13 @@
 use Rattle.std.specs.Prelude.{ℕ, List, Bool, true, false, Option, Some, None}
 use Rattle.machine_calls.specs.declared.call.Call.{Call}
 use Rattle.machine_calls.specs.declared.call.Call.TheVariants as calls
+use Rattle.machine_calls.specs.declared.task.Task.{Task}
+use Rattle.machine_calls.specs.declared.task.Task.TheVariants as tasks
 use Rattle.machine_calls.specs.declared.reply.Reply.{Reply}
 use Rattle.machine_calls.specs.declared.reply.Reply.TheVariants as replies
-use Rattle.sat_rounds.specs.Sessions.{is_stopped}
-use Rattle.sat_rounds.specs.declared.rounds.RoundEnd.{RoundEnd}
-use Rattle.sat_rounds.specs.declared.rounds.RoundEnd.TheVariants as ends
+use Rattle.sat_sessions.specs.Sessions.{is_stopped}
+use Rattle.sat_sessions.specs.declared.rounds.RoundEnd.{RoundEnd}
+use Rattle.sat_sessions.specs.declared.rounds.RoundEnd.TheVariants as ends
 use Rattle.node_rounds.specs.declared.upkeep.Found.{Found}
 use Rattle.node_rounds.specs.declared.upkeep.Found.TheVariants as founds
 use Rattle.node_rounds.specs.declared.upkeep.Upkeep.{Upkeep}
@@ -19,12 +21,15 @@ words_of kinds.Audit = 2
 words_of kinds.Repair = 128
 words_of kinds.Exit = 128
 
--- the call that plans it, at a moment, with random words
+-- the task that plans it, with random words, and its call at a moment
+abbrev pub plan_task : Upkeep → List ℕ → Task
+plan_task kinds.Recheck words = tasks.PlanRecheck
+plan_task kinds.Audit words = tasks.PlanAudit words
+plan_task kinds.Repair words = tasks.PlanRepair words
+plan_task kinds.Exit words = tasks.PlanExit words
+
 abbrev pub plan_call : Upkeep → ℕ → List ℕ → Call
-plan_call kinds.Recheck now words = calls.PlanRecheck now
-plan_call kinds.Audit now words = calls.PlanAudit now words
-plan_call kinds.Repair now words = calls.PlanRepair now words
-plan_call kinds.Exit now words = calls.PlanExit now words
+plan_call kind now words = calls.Own now (plan_task kind words)
 
 -- the reply holds its plan
 abbrev pub is_plan_of : Upkeep → Reply → Bool
@@ -34,12 +39,15 @@ is_plan_of kinds.Repair (replies.RepairPlanned plan sources targets) = true
 is_plan_of kinds.Exit (replies.ExitPlanned plan sources target) = true
 is_plan_of _ _ = false
 
--- the call that ends it, with what was found
+-- the task that ends it, with what was found, and its call at a moment
+abbrev pub end_task : Found → Task
+end_task (founds.Recheck plan checked) = tasks.EndRecheck plan checked
+end_task (founds.Audit judged) = tasks.EndAudit judged
+end_task (founds.Repair outcome) = tasks.EndRepair outcome
+end_task (founds.Exit outcome) = tasks.EndExit outcome
+
 abbrev pub end_call : Found → ℕ → Call
-end_call (founds.Recheck plan checked) now = calls.EndRecheck now plan checked
-end_call (founds.Audit judged) now = calls.EndAudit now judged
-end_call (founds.Repair outcome) now = calls.EndRepair now outcome
-end_call (founds.Exit outcome) now = calls.EndExit now outcome
+end_call found now = calls.Own now (end_task found)
 
 -- why a round ends after a reply: the machine has stopped. After every other it goes on
 abbrev pub stops_by : Bool → Option RoundEnd

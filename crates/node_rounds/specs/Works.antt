@@ -5,11 +5,11 @@ use Rattle.sat_base.specs.declared.scheme.Scheme.{Scheme}
 use Rattle.turnstile.specs.History.{Each}
 use Rattle.desk_runs.specs.Entered.{At, Entered, place_of}
 use Rattle.sat_book.specs.Legal.{E}
-use Rattle.sat_rounds.specs.Draws.{Draws}
-use Rattle.sat_rounds.specs.Rounds.{round_places, told_of_kit}
-use Rattle.sat_rounds.specs.Sessions.{V}
-use Rattle.sat_rounds.specs.declared.rounds.Round.{Round}
-use Rattle.sat_rounds.specs.declared.rounds.RoundEnd.{RoundEnd}
+use Rattle.sat_sessions.specs.Draws.{Draws}
+use Rattle.sat_sessions.specs.Rounds.{round_places, told_of_kit}
+use Rattle.sat_sessions.specs.Sessions.{V}
+use Rattle.sat_sessions.specs.declared.rounds.Round.{Round}
+use Rattle.sat_sessions.specs.declared.rounds.RoundEnd.{RoundEnd}
 use Rattle.node_rounds.specs.declared.upkeep.Upkeep.{Upkeep}
 use Rattle.node_rounds.specs.Calls.{AreLawful, IfFull, Makes}
 use Rattle.node_rounds.specs.Clauses.{CountsUnanswered}

@@ -7,7 +7,7 @@ ghost use Rattle.node_rounds.specs.Askable.{IsAskable, IsFoundAs, IsMendedAs};
 ghost use Rattle.node_rounds.specs.Asked.{Finds, IsAudited, IsGathered, IsRechecked, IsRepaired, IsSpreadOut, NeverFalls, StopsAuditing, StopsRepairing, nodes_view};
 ghost use Rattle.node_asks.specs.Telling.{CanSpread};
 
-use crate::kit::Store;
+use crate::kit::RoundStore;
 use crate::upkeep::Found;
 use audit_core::{AuditPlan, Checked, Judged, RecheckPlan, judge, recheck};
 use bw_decode::Scratch;
@@ -20,7 +20,7 @@ use std::alloc::Global;
 // Asks the nodes of an audit, all at once, and judges what they answer.
 fn audit<N: Nodes>(
     alloc: Global,
-    store: &Store,
+    store: &RoundStore,
     scratch: &mut Scratch,
     nodes: &mut N,
     plan: AuditPlan,
@@ -45,7 +45,7 @@ fn audit<N: Nodes>(
 // Asks the node of a recheck again, and tells whether it passes.
 fn check_again<N: Nodes>(
     alloc: Global,
-    store: &Store,
+    store: &RoundStore,
     nodes: &mut N,
     plan: &RecheckPlan,
     place: &Place,
@@ -65,7 +65,7 @@ fn check_again<N: Nodes>(
 // Puts fresh pieces at the targets of a repair, and tells how it ends.
 fn mend<N: Nodes>(
     alloc: Global,
-    store: &Store,
+    store: &RoundStore,
     nodes: &mut N,
     plan: RepairPlan,
     targets: &[Place],
@@ -105,7 +105,7 @@ fn mend<N: Nodes>(
 // Asks the sources of a repair window by window, makes its fresh pieces, and puts them at their targets.
 fn repair<N: Nodes>(
     alloc: Global,
-    store: &Store,
+    store: &RoundStore,
     scratch: &mut Scratch,
     nodes: &mut N,
     plan: RepairPlan,
@@ -147,10 +147,10 @@ fn repair<N: Nodes>(
 /// Asks the nodes of the plan that a reply holds, and tells what was found. An audit's are asked for their shares, a
 /// recheck's once more, and of a repair or a move the sources are asked and fresh pieces put at the targets.
 ///
-/// The decoder's room was made for the scheme. The one error is want of memory; then some of the asks may have been made.
+/// The decoder's room was made for the scheme. It fails only where memory runs out; then some of the asks may have been made.
 pub fn ask<N: Nodes>(
     alloc: Global,
-    store: &Store,
+    store: &RoundStore,
     scratch: &mut Scratch,
     nodes: &mut N,
     reply: Reply,

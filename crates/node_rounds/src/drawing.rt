@@ -4,10 +4,10 @@ ghost use Rattle.sat_base.specs.Outside.{with_front};
 ghost use Rattle.node_rounds.specs.Drawing.{Wants};
 
 use sat_base::{Items, Words, Words64};
-use sat_rounds::{RoundEnd, draw};
+use sat_sessions::{RoundEnd, draw};
 use std::alloc::Global;
 
-// Draws so many words. The room for them is made first, so that none is drawn where memory is wanting.
+// Draws so many words. The room for them is made first, so that none is drawn where memory runs out.
 pub(crate) fn draw_words<W: Words>(
     alloc: Global,
     words: &mut W,

@@ -8,12 +8,12 @@ ghost use Rattle.node_rounds.specs.Parts.{kit_view};
 ghost use Rattle.node_rounds.specs.Askable.{IsFoundAs, IsStoreOf};
 
 use crate::drawing::draw_words;
-use crate::kit::{Kit, Store};
+use crate::kit::{Kit, RoundStore};
 use crate::upkeep::{Found, Upkeep, end_call, plan_call, went_at, words_of};
 use machine_calls::{Call, Reply};
 use sat_base::{Clock, Keeper, Moment, Nodes, Ticks, Words};
 use sat_book::{Answered, Book};
-use sat_rounds::{BookPass, RoundEnd};
+use sat_sessions::{BookPass, RoundEnd};
 use std::alloc::Global;
 use std::sync::Wait;
 use turnstile::{Desk, Turned};
@@ -74,7 +74,7 @@ pub(crate) fn finish<K: Keeper, T: Clock, R: Wait>(
     rt: &R,
     desk: &Desk<Book<K>>,
     pass: BookPass<K>,
-    store: &Store,
+    store: &RoundStore,
     found: Found,
     clock: &mut T,
     places: &mut Vec<u64>,

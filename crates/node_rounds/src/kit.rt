@@ -14,12 +14,12 @@ pub struct Kit<N, T, W, I> {
 
 /// What of a store a round goes by: the keys under which nodes are asked, and the scheme of its segments.
 #[derive(Drop)]
-pub struct Store {
+pub struct RoundStore {
     pub keys: Keys,
     pub scheme: Scheme,
 }
 
-impl Store {
+impl RoundStore {
     ghost use Rattle.std.specs.Prelude.{◌≡◌, []};
     ghost use Rattle.node_rounds.specs.Askable.{IsStoreOf};
 
@@ -32,7 +32,7 @@ impl Store {
         let settings = core.settings();
         // Whoever reads its marks is told that the tables keep every rule.
         let _ = core.marks();
-        Store {
+        RoundStore {
             keys: Keys::new(settings.secret),
             scheme: settings.scheme,
         }

@@ -1,10 +1,10 @@
 // The kits whose workers make a round at each tick.
-use crate::kit::{Kit, NodesView, Store};
+use crate::kit::{Kit, NodesView, RoundStore};
 use crate::rounds::{audit_round, repair_round};
 use bw_decode::Scratch;
 use sat_base::{Beat, Clock, Gate, Keeper, Nodes, Ticks, Words};
 use sat_book::Book;
-use sat_rounds::{BookPass, Round, RoundKit};
+use sat_sessions::{BookPass, Round, RoundKit};
 use std::alloc::Global;
 use std::sync::Wait;
 use turnstile::Desk;
@@ -14,7 +14,7 @@ use turnstile::Desk;
 #[derive(Drop)]
 pub struct AuditKit<N, T, W, I> {
     pub kit: Kit<N, T, W, I>,
-    pub store: Store,
+    pub store: RoundStore,
     pub scratch: Scratch,
 }
 
@@ -71,7 +71,7 @@ impl<N: Nodes, T: Clock, W: Words, I: Ticks> RoundKit for AuditKit<N, T, W, I> {
 #[derive(Drop)]
 pub struct RepairKit<N, T, W, I> {
     pub kit: Kit<N, T, W, I>,
-    pub store: Store,
+    pub store: RoundStore,
     pub scratch: Scratch,
 }
 

@@ -30,7 +30,7 @@ mod tally;
 mod upkeep;
 
 pub use asking::ask;
-pub use kit::{Kit, NodesView, Store};
+pub use kit::{Kit, NodesView, RoundStore};
 pub use kits::{AuditKit, RepairKit};
 pub use laws::{a_recheck_says_what_is_held, a_repair_of_a_round_keeps_the_bytes};
 pub use rounds::{audit_round, repair_round};

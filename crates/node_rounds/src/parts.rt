@@ -7,12 +7,12 @@ ghost use Rattle.node_rounds.specs.Works.{Does};
 
 use crate::asking::ask;
 use crate::entering::{finish, plan};
-use crate::kit::{Kit, Store};
+use crate::kit::{Kit, RoundStore};
 use crate::upkeep::{Upkeep, is_plan_of, went_at};
 use bw_decode::Scratch;
 use sat_base::{Clock, Keeper, Nodes, Point, Ticks, Words};
 use sat_book::Book;
-use sat_rounds::{BookPass, RoundEnd};
+use sat_sessions::{BookPass, RoundEnd};
 use std::alloc::Global;
 use std::sync::Wait;
 use turnstile::Desk;
@@ -35,7 +35,7 @@ pub(crate) fn part<K: Keeper, N: Nodes, T: Clock, W: Words, I: Ticks, F: Fn(Poin
     alloc: Global,
     desk: &Desk<Book<K>>,
     pass: BookPass<K>,
-    store: &Store,
+    store: &RoundStore,
     scratch: &mut Scratch,
     kind: Upkeep,
     kit: &mut Kit<N, T, W, I>,

@@ -5,13 +5,13 @@ ghost use Rattle.node_rounds.specs.Asked.{nodes_view};
 ghost use Rattle.node_rounds.specs.Parts.{kit_view};
 ghost use Rattle.node_rounds.specs.Works.{Rounds};
 
-use crate::kit::{Kit, Store};
+use crate::kit::{Kit, RoundStore};
 use crate::parts::part;
 use crate::upkeep::{Upkeep, end_of};
 use bw_decode::Scratch;
 use sat_base::{Clock, Keeper, Nodes, Point, Ticks, Words};
 use sat_book::Book;
-use sat_rounds::{BookPass, Round, RoundEnd};
+use sat_sessions::{BookPass, Round, RoundEnd};
 use std::alloc::Global;
 use std::sync::Wait;
 use turnstile::Desk;
@@ -25,7 +25,7 @@ fn round<K: Keeper, N: Nodes, T: Clock, W: Words, I: Ticks, F: Fn(Point), R: Wai
     alloc: Global,
     desk: &Desk<Book<K>>,
     pass: BookPass<K>,
-    store: &Store,
+    store: &RoundStore,
     scratch: &mut Scratch,
     first: Upkeep,
     second: Upkeep,
@@ -90,7 +90,7 @@ pub fn audit_round<K: Keeper, N: Nodes, T: Clock, W: Words, I: Ticks, F: Fn(Poin
     alloc: Global,
     desk: &Desk<Book<K>>,
     pass: BookPass<K>,
-    store: &Store,
+    store: &RoundStore,
     scratch: &mut Scratch,
     kit: &mut Kit<N, T, W, I>,
     gate: &F,
@@ -128,7 +128,7 @@ pub fn repair_round<K: Keeper, N: Nodes, T: Clock, W: Words, I: Ticks, F: Fn(Poi
     alloc: Global,
     desk: &Desk<Book<K>>,
     pass: BookPass<K>,
-    store: &Store,
+    store: &RoundStore,
     scratch: &mut Scratch,
     kit: &mut Kit<N, T, W, I>,
     gate: &F,

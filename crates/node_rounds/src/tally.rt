@@ -4,10 +4,10 @@ ghost use Rattle.node_rounds.specs.Tally.{TallyRounds, tally_view};
 
 use crate::entering::enter;
 use crate::upkeep::{end_of, went_at};
-use machine_calls::Call;
+use machine_calls::{Call, Task};
 use sat_base::{Beat, Clock, Gate, Keeper, Moment, Ticks};
 use sat_book::Book;
-use sat_rounds::{BookPass, Round, RoundEnd, RoundKit};
+use sat_sessions::{BookPass, Round, RoundEnd, RoundKit};
 use std::alloc::Global;
 use std::sync::Wait;
 use turnstile::Desk;
@@ -22,7 +22,7 @@ pub struct TallyKit<T, I> {
 /// Tallies the hour: it enters the call of a tally at the clock's next moment, and draws nothing.
 ///
 /// What it did is told by `TallyRounds`: the entry stands, and its reply says how the round ends. It goes on also where the
-/// hour was done. Nothing is entered where the term is full, or memory for a place is wanting, and then no moment is taken.
+/// hour was done. Nothing is entered where the term is full, or there is no memory for a place, and then no moment is taken.
 pub fn tally_round<K: Keeper, T: Clock, I: Ticks, R: Wait>(
     rt: &R,
     alloc: Global,
@@ -40,7 +40,11 @@ pub fn tally_round<K: Keeper, T: Clock, I: Ticks, R: Wait>(
         return (pass, Round { places, end });
     }
     let now = Moment::of(kit.clock.now());
-    let (pass, answered) = enter(rt, desk, pass, Call::TallyHour { now }, &mut places);
+    let call = Call::Own {
+        now,
+        task: Task::TallyHour,
+    };
+    let (pass, answered) = enter(rt, desk, pass, call, &mut places);
     match answered {
         Ok(reply) => {
             let end = end_of(went_at(&reply));

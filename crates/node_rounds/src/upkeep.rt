@@ -3,10 +3,10 @@ ghost use Rattle.std.specs.Prelude.{◌≡◌};
 ghost use Rattle.node_rounds.specs.Upkeep as rules;
 
 use audit_core::{Checked, Judged, RecheckPlan};
-use machine_calls::{Call, Refusal, Reply};
+use machine_calls::{Call, Refusal, Reply, Task};
 use repair_core::RepairOutcome;
 use sat_base::{Moment, Words64};
-use sat_rounds::RoundEnd;
+use sat_sessions::RoundEnd;
 
 /// What a part of a round does.
 #[derive(Clone, Copy)]
@@ -41,15 +41,25 @@ pub fn words_of(kind: Upkeep) -> usize
     }
 }
 
+// The task that plans it.
+fn plan_task(kind: Upkeep, words: Words64) -> Task
+    ensures { result ≡ rules.plan_task kind words }
+{
+    match kind {
+        Upkeep::Recheck => Task::PlanRecheck,
+        Upkeep::Audit => Task::PlanAudit { words },
+        Upkeep::Repair => Task::PlanRepair { words },
+        Upkeep::Exit => Task::PlanExit { words },
+    }
+}
+
 /// The call that plans it.
 pub fn plan_call(kind: Upkeep, now: Moment, words: Words64) -> Call
     ensures { result ≡ rules.plan_call kind now words }
 {
-    match kind {
-        Upkeep::Recheck => Call::PlanRecheck { now },
-        Upkeep::Audit => Call::PlanAudit { now, words },
-        Upkeep::Repair => Call::PlanRepair { now, words },
-        Upkeep::Exit => Call::PlanExit { now, words },
+    Call::Own {
+        now,
+        task: plan_task(kind, words),
     }
 }
 
@@ -65,15 +75,25 @@ pub fn is_plan_of(kind: Upkeep, reply: &Reply) -> bool
     }
 }
 
+// The task that ends it.
+fn end_task(found: Found) -> Task
+    ensures { result ≡ rules.end_task found }
+{
+    match found {
+        Found::Recheck { plan, checked } => Task::EndRecheck { plan, checked },
+        Found::Audit(judged) => Task::EndAudit { judged },
+        Found::Repair(outcome) => Task::EndRepair { outcome },
+        Found::Exit(outcome) => Task::EndExit { outcome },
+    }
+}
+
 /// The call that ends it.
 pub fn end_call(found: Found, now: Moment) -> Call
     ensures { result ≡ rules.end_call found now }
 {
-    match found {
-        Found::Recheck { plan, checked } => Call::EndRecheck { now, plan, checked },
-        Found::Audit(judged) => Call::EndAudit { now, judged },
-        Found::Repair(outcome) => Call::EndRepair { now, outcome },
-        Found::Exit(outcome) => Call::EndExit { now, outcome },
+    Call::Own {
+        now,
+        task: end_task(found),
     }
 }
 

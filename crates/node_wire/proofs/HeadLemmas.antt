@@ -6,12 +6,12 @@ use Rattle.std.proofs.lemmas.Grind.{common_steps}
 use Rattle.std.specs.Str.Parse.{digits_value}
 use Rattle.httparse.specs.Grammar.{ResponseHead, HasNoResponse, ReadsResponse, print_response, print_blank, status_code}
 use Rattle.httparse.specs.Spans.{ResponseOverflows, IsResponseAt, name_and_value}
-use Rattle.http_edge.specs.Headers.{values_named}
+use Rattle.http_parts.specs.Headers.{values_named}
 use Rattle.httparse.specs.declared.spans.HeaderSpan.{HeaderSpan}
 use Rattle.httparse.specs.declared.spans.ResponseSpans.{ResponseSpans}
 use Rattle.httparse.proofs.GrammarLemmas.{response_unique, ReadsResponse-append, print_response-append}
 use Rattle.node_wire.specs.Heard.{HasHead, LacksHead, says_of, of_lengths, asked_len}
-use Rattle.http_edge.specs.Heads.{max_head, max_lines}
+use Rattle.http_parts.specs.Heads.{max_head, max_lines}
 use Rattle.node_wire.specs.declared.head.Question.{Question}
 use Rattle.node_wire.specs.declared.head.Question.TheVariants.{Fetch, Put}
 use Rattle.sat_base.specs.Text.{numeral}

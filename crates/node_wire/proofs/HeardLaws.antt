@@ -1,19 +1,15 @@
 -- What is heard is one thing, and what was decided stays.
-use Rattle.std.proofs.Common.{◌≡◌, ℕ, ◌<◌, ◌≤◌, inr, List, [], ◌++◌, length, take, refl, sym, ◌∙◌, ap, subst, arith, Bool, true, false, cond, nat_le, ◌||◌, Option, Some, None, length-append}
+use Rattle.std.proofs.Common.{◌≡◌, ℕ, ◌≤◌, inr, List, [], ◌++◌, length, take, refl, sym, ◌∙◌, ap, subst, arith, Bool, true, false, cond, nat_le, ◌||◌, Option, Some, None, length-append}
 use Rattle.std.proofs.lemmas.List.{take-append-le, length-take-le}
 use Rattle.std.proofs.lemmas.Grind.{common_steps}
-use Rattle.httparse.specs.Grammar.{ResponseHead}
+use mathlib.Core.Bool.{or-true}
 use Rattle.httparse.proofs.GrammarLemmas.{response_unique}
-use Rattle.node_wire.specs.Heard.{HasHead, LacksHead, Heard, Said, headed, lacking, share, no_answer, behind, unless_whole, says_of, asked_len}
-use Rattle.http_edge.specs.Heads.{max_head}
+use Rattle.node_wire.specs.Heard.{LacksHead, Heard, Said, headed, lacking, share, no_answer, behind, unless_whole, says_of, asked_len}
+use Rattle.http_parts.specs.Heads.{max_head}
 use Rattle.node_wire.specs.declared.head.Question.{Question}
 use Rattle.node_wire.specs.declared.head.Says.{Says}
 use Rattle.node_wire.specs.declared.head.Says.TheVariants.{NoAnswer, Missing, Kept, Long, Body}
 use Rattle.node_wire.proofs.HeadLemmas.{has_more, lacks_more, body_small}
-
-or_true : (b : Bool) → (b || true) ≡ true
-or_true true = refl
-or_true false = refl
 
 pub heard_one : (question : Question) (bytes : List ℕ) (ended : Bool) (a b : Option Said) → Heard question bytes ended a → Heard question bytes ended b → a ≡ b
 heard_one question bytes ended a b (headed h rest x) (headed k left y) =
@@ -41,7 +37,7 @@ full_stays : (b : Bool) (question : Question) (bytes more : List ℕ) (ended : B
 full_stays true question bytes more ended o t e lacks =
     let full : max_head ≤ length bytes = grind (arith, common_steps, t) in
     let long : nat_le max_head (length (bytes ++ more)) ≡ true = grind (arith, common_steps, full, length-append bytes more) in
-    subst (Heard question (bytes ++ more) ended) (rw long (ap (λ b. unless_whole b) (or_true ended) ∙ e)) (lacking (lacks_more bytes more (inr full) lacks))
+    subst (Heard question (bytes ++ more) ended) (rw long (ap (λ b. unless_whole b) (or-true ended) ∙ e)) (lacking (lacks_more bytes more (inr full) lacks))
 full_stays false question bytes more ended o t e lacks = cc
 
 heard_stays_at : (question : Question) (bytes more : List ℕ) (ended : Bool) (p : Option Said) (o : Said) → Heard question bytes false p → p ≡ Some o → Heard question (bytes ++ more) ended (Some o)

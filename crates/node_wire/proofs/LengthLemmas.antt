@@ -2,7 +2,7 @@
 use Rattle.std.proofs.Common.{◌≡◌, ◌≢◌, ℕ, List, [], ◌∷◌, length, refl, sym, ap, arith, true, false, nat_le, Some, None}
 use Rattle.std.specs.Str.Parse.{digits_value}
 use Rattle.std.proofs.lemmas.Grind.{common_steps}
-use Rattle.http_edge.proofs.LengthLemmas.{first}
+use Rattle.http_parts.proofs.HeaderLemmas.{first}
 use Rattle.sat_base.specs.Text.{numeral, up_to}
 use Rattle.sat_base.proofs.TextLemmas.{up_to_some, up_to_too_great}
 use Rattle.node_wire.specs.Heard.{of_lengths}

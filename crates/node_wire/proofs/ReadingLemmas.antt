@@ -4,7 +4,7 @@ use Rattle.std.proofs.Common.{min, ◌≡◌, ℕ, ◌+◌, ◌-◌, ◌<◌, �
 use Rattle.std.proofs.lemmas.List.{take-append-le, take-append-drop, length-take-le, drop-append-le, drop_all}
 use Rattle.std.proofs.lemmas.Grind.{common_steps}
 use Rattle.httparse.specs.Grammar.{ResponseHead}
-use Rattle.http_edge.specs.Heads.{max_head}
+use Rattle.http_parts.specs.Heads.{max_head}
 use Rattle.node_wire.specs.Heard.{HasHead, LacksHead, Heard, Said, headed, lacking, share, no_answer, behind, unless_whole, says_of, asked_len}
 use Rattle.node_wire.specs.Readings.{HasBody, IsFront, At}
 use Rattle.node_wire.specs.declared.head.Question.{Question}

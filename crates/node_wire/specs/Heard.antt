@@ -3,8 +3,8 @@ use Rattle.std.specs.Prelude.{◌≡◌, ℕ, ◌≤◌, ◌==◌, ◌||◌, Lis
 use Rattle.std.specs.Str.Parse.{digits_value}
 use Rattle.httparse.specs.Grammar.{ResponseHead, ReadsResponse, print_response, status_code}
 use Rattle.httparse.specs.Spans.{name_and_value}
-use Rattle.http_edge.specs.Headers.{values_named}
-use Rattle.http_edge.specs.Heads.{max_head, max_lines}
+use Rattle.http_parts.specs.Headers.{values_named}
+use Rattle.http_parts.specs.Heads.{max_head, max_lines}
 use Rattle.sat_base.specs.Text.{numeral}
 use Rattle.node_wire.specs.declared.head.Question.{Question}
 use Rattle.node_wire.specs.declared.head.Question.TheVariants.{Fetch, Put}

@@ -1,7 +1,7 @@
 -- How far a reading is.
 use Rattle.std.specs.Prelude.{◌≡◌, ℕ, Bool, ◌+◌, ◌<◌, ◌≤◌, ◌++◌, ◌⊎◌, List, [], length, drop, Some, None, false, vec_capacity, vec_len, slice_range}
 use Rattle.httparse.specs.Grammar.{ResponseHead}
-use Rattle.http_edge.specs.Heads.{max_head}
+use Rattle.http_parts.specs.Heads.{max_head}
 use Rattle.node_wire.specs.Heard.{HasHead, LacksHead, Heard, Said, share, missing, kept, no_answer, says_of, asked_len}
 use Rattle.node_wire.specs.declared.head.Question.{Question}
 use Rattle.node_wire.specs.declared.head.Says.TheVariants.{Body}

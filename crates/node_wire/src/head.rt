@@ -1,10 +1,10 @@
 // What the head of an answer says.
 ghost use Rattle.std.specs.Prelude.{◌≡◌, All, length, map, codes};
 ghost use Rattle.httparse.specs.Spans.{IsHeaderWithin, header_bytes};
-ghost use Rattle.http_edge.specs.Headers.{values_named};
+ghost use Rattle.http_parts.specs.Headers.{values_named};
 ghost use Rattle.node_wire.specs.Heard.{of_status, of_lengths, IsHeadOf};
 
-use http_edge::{MAX_HEAD, MAX_LINES, count_named, first_named};
+use http_parts::{MAX_HEAD, MAX_LINES, count_named, first_named};
 use httparse::Status;
 use httparse::spans::{EMPTY_HEADER_SPAN, HeaderSpan, parse_response};
 use sat_base::{is_numeral, value_up_to};

@@ -3,7 +3,7 @@ ghost use Rattle.std.specs.Prelude.{ℕ, List, Bool, ◌≡◌, ◌≤◌, ◌+�
 ghost use Rattle.node_wire.specs.Heard.{Heard, Said, share, asked_len};
 
 use crate::head::{Question, Says, head_of};
-use http_edge::MAX_HEAD;
+use http_parts::MAX_HEAD;
 use sat_base::NoMemory;
 use std::alloc::Global;
 

@@ -1,10 +1,11 @@
 -- The fields of a limit are read where the bytes are a limit's, and only there.
-use Rattle.std.proofs.Common.{◌≡◌, ℕ, zero, suc, ◌+◌, ◌<◌, ◌≤◌, Bool, true, false, cond, List, [], ◌∷◌, ◌++◌, length, get_or, take, drop, Option, Some, None, Result, Ok, Err, refl, sym, ap, subst, ◌∙◌, arith, inl, inr, nat_eq}
+use Rattle.std.proofs.Common.{◌≡◌, ℕ, zero, suc, ◌+◌, ◌^◌, ◌<◌, ◌≤◌, Bool, true, false, cond, List, [], ◌∷◌, ◌++◌, length, get_or, take, drop, Option, Some, None, Result, Ok, Err, refl, sym, ap, subst, ◌∙◌, arith, inl, inr, nat_eq}
 use Rattle.std.specs.Int.{w32, w64, to_be_bytes}
 use Rattle.std.proofs.lemmas.Bool.{cases_lt, eqb-true}
 use Rattle.std.proofs.lemmas.List.{length-take, length-drop, get_or-drop, get_or-take, get_or_past, take_all, drop-drop}
 use Rattle.std.proofs.Math.Seq.{take-add, drop-cons}
 use Rattle.std.proofs.lemmas.Nat.{be_bytes_4, be_bytes_8, from_be_bytes-to_be_bytes_4, from_be_bytes-to_be_bytes_8}
+use Rattle.std.proofs.lemmas.Option.{same_Some}
 use Rattle.order_limits.specs.Part.{part}
 use Rattle.order_limits.specs.declared.limit.Action.{Action}
 use Rattle.order_limits.specs.declared.limit.Action.TheVariants.{Put, Get, GetAudit, GetRepair, PutRepair}
@@ -57,9 +58,6 @@ half_back at bytes fits le = be_bytes_4 (part at 4 bytes) _ (length-part at 4 by
 
 -- ---- small tools
 
-some_is : (a b : Action) → Some a ≡ Some b → a ≡ b
-some_is a b e = cc
-
 abbrev done : Limit → Result Limit OrderErr
 done x = Ok x
 
@@ -87,11 +85,11 @@ same_limit a i e1 e2 e3 e4 e5 e6 e7 = rw (e1, e2, e3, e4, e5, e6, e7) refl
 
 pub action_back : (n : ℕ) (a : Action) → action_of n ≡ Some a → action_byte a ≡ n
 action_back zero a e = absurd cc
-action_back (suc zero) a e = ap action_byte (some_is _ _ (sym e))
-action_back (suc (suc zero)) a e = ap action_byte (some_is _ _ (sym e))
-action_back (suc (suc (suc zero))) a e = ap action_byte (some_is _ _ (sym e))
-action_back (suc (suc (suc (suc zero)))) a e = ap action_byte (some_is _ _ (sym e))
-action_back (suc (suc (suc (suc (suc zero))))) a e = ap action_byte (some_is _ _ (sym e))
+action_back (suc zero) a e = ap action_byte (same_Some _ _ (sym e))
+action_back (suc (suc zero)) a e = ap action_byte (same_Some _ _ (sym e))
+action_back (suc (suc (suc zero))) a e = ap action_byte (same_Some _ _ (sym e))
+action_back (suc (suc (suc (suc zero)))) a e = ap action_byte (same_Some _ _ (sym e))
+action_back (suc (suc (suc (suc (suc zero))))) a e = ap action_byte (same_Some _ _ (sym e))
 action_back (suc (suc (suc (suc (suc (suc n)))))) a e = absurd cc
 
 action_again : (a : Action) → action_of (action_byte a) ≡ Some a
@@ -127,3 +125,32 @@ fields_again l f =
     rw (action_again l.action) (ap done (same_limit l.action l.index
     (from_be_bytes-to_be_bytes_8 l.serial.0 f.serial) (from_be_bytes-to_be_bytes_4 l.node.0 f.node) (from_be_bytes-to_be_bytes_8 l.segment.0 f.segment)
     (from_be_bytes-to_be_bytes_8 l.limit f.limit) (from_be_bytes-to_be_bytes_8 l.issued f.issued) (from_be_bytes-to_be_bytes_8 l.expires f.expires) (from_be_bytes-to_be_bytes_4 l.customer.0 f.customer)))
+
+-- ---- ranges
+
+pub number64_fits : (at : ℕ) (bytes : List ℕ) → IsBytes bytes → number_in w64 at bytes < 2 ^ 64
+number64_fits at bytes fits =
+    let each = IsBytes-part at 8 bytes fits in
+    omega (arith, each 0, each 1, each 2, each 3, each 4, each 5, each 6, each 7)
+
+number32_fits : (at : ℕ) (bytes : List ℕ) → IsBytes bytes → number_in w32 at bytes < 2 ^ 32
+number32_fits at bytes fits =
+    let each = IsBytes-part at 4 bytes fits in
+    omega (arith, each 0, each 1, each 2, each 3)
+
+-- the fields that are read fit their types
+pub fields_fit : (b : List ℕ) (l : Limit) → IsBytes b → fields_of b ≡ Ok l → FitsLimit l
+unfolding fields_of
+fields_fit b l fits e =
+    let v = test_ok (nat_eq (get_or b 0 0) 1) (with_action (action_of (get_or b 1 0)) b) (no.Version (get_or b 0 0)) l e in
+    let a = with_action_ok (action_of (get_or b 1 0)) b l v.1 in
+    subst FitsLimit a.2 (record {
+      serial = number64_fits 2 b fits;
+      node = number32_fits 10 b fits;
+      segment = number64_fits 14 b fits;
+      index = fits 22;
+      limit = number64_fits 23 b fits;
+      issued = number64_fits 31 b fits;
+      expires = number64_fits 39 b fits;
+      customer = number32_fits 47 b fits;
+    })

@@ -1,5 +1,5 @@
 -- Limits and orders are read where the bytes are one, and only there.
-use Rattle.std.proofs.Common.{◌≡◌, ℕ, List, ◌++◌, length, Result, Ok, Err, refl, sym, ap, ◌∙◌, arith, nat_eq, append_assoc}
+use Rattle.std.proofs.Common.{◌≡◌, ℕ, List, ◌++◌, length, Result, Ok, Err, refl, sym, ap, subst, ◌∙◌, arith, nat_eq, append_assoc}
 use Rattle.std.specs.Prelude.{IfOk}
 use Rattle.std.specs.Cmp.Lexicographic.{pointwise, same_text, nat_list_eq_equiv}
 use Rattle.std.specs.Int.{w64, to_be_bytes}
@@ -13,13 +13,13 @@ use Rattle.order_limits.specs.declared.limit.Limit.{Limit}
 use Rattle.order_limits.specs.declared.limit.Order.{Order}
 use Rattle.order_limits.specs.declared.read.OrderErr.{OrderErr}
 use Rattle.order_limits.specs.declared.read.OrderErr.TheVariants as no
-use Rattle.order_limits.specs.Order.{limit_body, limit_under, order_bytes, FitsLimit, FitsOrder, IsGoodLimit, IsGoodOrder}
-use Rattle.order_limits.specs.Read.{number_in, fields_of, is_tag_of, limit_of, order_of}
+use Rattle.order_limits.specs.Order.{limit_body, limit_under, order_bytes, FitsLimit, FitsOrder, IsGoodLimit, IsGoodOrder, IsOffer}
+use Rattle.order_limits.specs.Read.{number_in, fields_of, is_tag_of, limit_of, order_of, offer_of}
 use Rattle.sat_base.specs.Results.{◌>>=◌}
 use Rattle.order_limits.proofs.Pieces.{length-body, length-hmac, length-order_tag}
-use Rattle.order_limits.proofs.Fields.{IsBytes, test_ok, fields_found, fields_again, IsBytes-part, length-part, part-join, part-whole, word_back}
+use Rattle.order_limits.proofs.Fields.{IsBytes, test_ok, fields_found, fields_fit, fields_again, number64_fits, IsBytes-part, length-part, part-join, part-whole, word_back}
 
-bind_ok : {A B : Type 0} (r : Result A OrderErr) (f : A → Result B OrderErr) (y : B) → (r >>= f) ≡ Ok y → (x : A) × (r ≡ Ok x) × (f x ≡ Ok y)
+pub bind_ok : {A B : Type 0} (r : Result A OrderErr) (f : A → Result B OrderErr) (y : B) → (r >>= f) ≡ Ok y → (x : A) × (r ≡ Ok x) × (f x ≡ Ok y)
 bind_ok (Ok x) f y e = (x, refl, e)
 bind_ok (Err d) f y e = absurd cc
 
@@ -124,6 +124,79 @@ order_again secret o fits =
     let n : number_in w64 83 (order_bytes secret o) ≡ o.amount = rw p.amount (from_be_bytes-to_be_bytes_8 o.amount fits.amount) in
     rw (eq-eqb _ _ p.len, p.body, fields_again o.limit fits.limit_fits, p.tag, nat_list_eq_equiv.refl (hmac (node_key secret o.limit.node) (limit_body o.limit)), n, p.last, nat_list_eq_equiv.refl (order_tag_of secret o.limit.serial o.limit.node o.amount)) refl
 
+-- ---- offers: orders whose own tag isn't looked at
+
+whole_offer : (key b : List ℕ) (l : Limit) → IsBytes b → length b ≡ 123 → part 0 83 b ≡ limit_under key l → b ≡ limit_under key l ++ to_be_bytes w64 (number_in w64 83 b) ++ part 91 32 b
+whole_offer key b l fits len front =
+    rw (← front, word_back 83 b fits (omega arith)) (sym (part-whole 123 b len) ∙ sym (ap (λ x. x ++ part 91 32 b) (part-join 0 83 8 b) ∙ part-join 0 91 32 b))
+
+offer_found : (key b : List ℕ) (o : Order) → IsBytes b → FitsOrder o → offer_of key b ≡ Ok o → IsOffer key b o
+unfolding offer_of
+offer_found key b o bytes fits e =
+    let t = test_ok (nat_eq (length b) 123) _ (no.Length (length b)) o e in
+    let len : length b ≡ 123 = eqb-true _ _ t.0 in
+    let f = bind_ok (fields_of (part 0 51 b)) _ o t.1 in
+    let l = f.0 in
+    let g = test_ok (is_tag_of (part 51 32 b) key (part 0 51 b)) (Ok (order_made l (number_in w64 83 b))) no.LimitTag o f.2 in
+    let body = fields_found (part 0 51 b) l (IsBytes-part 0 51 b bytes) (length-part 0 51 b (omega arith)) f.1 in
+    let front = limit_body_of key b l body (same_text _ _ (sym g.0)) in
+    let made : order_made l (number_in w64 83 b) ≡ o = ok_is _ _ g.1 in
+    record {
+      fits = fits;
+      tag = part 91 32 b;
+      sized = length-part 91 32 b (omega arith);
+      written = subst (λ (x : Order). b ≡ limit_under key x.limit ++ to_be_bytes w64 x.amount ++ part 91 32 b) made (whole_offer key b l bytes len front);
+    }
+
+-- what an offer's bytes have
+pub offer_long : (key b : List ℕ) (o : Order) → offer_of key b ≡ Ok o → length b ≡ 123
+unfolding offer_of
+offer_long key b o e = eqb-true _ _ (test_ok (nat_eq (length b) 123) _ (no.Length (length b)) o e).0
+
+pub offer_fits : (key b : List ℕ) (o : Order) → IsBytes b → offer_of key b ≡ Ok o → FitsOrder o
+unfolding offer_of
+offer_fits key b o bytes e =
+    let t = test_ok (nat_eq (length b) 123) _ (no.Length (length b)) o e in
+    let f = bind_ok (fields_of (part 0 51 b)) _ o t.1 in
+    let l = f.0 in
+    let g = test_ok (is_tag_of (part 51 32 b) key (part 0 51 b)) (Ok (order_made l (number_in w64 83 b))) no.LimitTag o f.2 in
+    let made : order_made l (number_in w64 83 b) ≡ o = ok_is _ _ g.1 in
+    subst FitsOrder made (record { limit_fits = fields_fit (part 0 51 b) l (IsBytes-part 0 51 b bytes) f.1; amount = number64_fits 83 b bytes })
+
+offer_bytes : List ℕ → Order → List ℕ → List ℕ
+offer_bytes key o last = limit_under key o.limit ++ to_be_bytes w64 o.amount ++ last
+
+-- the parts of an offer that are looked at
+record OfferParts (key : List ℕ) (o : Order) (b : List ℕ) : Type 0 where
+  len : length b ≡ 123
+  body : part 0 51 b ≡ limit_body o.limit
+  tag : part 51 32 b ≡ hmac key (limit_body o.limit)
+  amount : part 83 8 b ≡ to_be_bytes w64 o.amount
+
+offer_parts : (key last : List ℕ) (o : Order) → length last ≡ 32 → OfferParts key o (offer_bytes key o last)
+unfolding offer_bytes limit_under
+offer_parts key last o long =
+    let body = limit_body o.limit in
+    let tag = hmac key (limit_body o.limit) in
+    let word = to_be_bytes w64 o.amount in
+    let l1 : length body ≡ 51 = length-body o.limit in
+    let l2 : length tag ≡ 32 = length-hmac _ _ in
+    let l12 : length (body ++ tag) ≡ 83 = omega (arith, length-append body tag) in
+    let l123 : length (body ++ tag ++ word) ≡ 91 = omega (arith, length-append (body ++ tag) word) in
+    record {
+      len = omega (arith, length-append (body ++ tag ++ word) last);
+      body = rw (append_assoc (body ++ tag) word last, append_assoc body tag (word ++ last)) (part-first body (tag ++ (word ++ last)) 51 l1);
+      tag = rw (append_assoc (body ++ tag) word last) (part-second body tag (word ++ last) 51 32 l1 l2);
+      amount = part-second (body ++ tag) word last 83 8 l12 refl;
+    }
+
+offer_again : (key last : List ℕ) (o : Order) → length last ≡ 32 → FitsOrder o → offer_of key (offer_bytes key o last) ≡ Ok o
+unfolding offer_of
+offer_again key last o long fits =
+    let p = offer_parts key last o long in
+    let n : number_in w64 83 (offer_bytes key o last) ≡ o.amount = rw p.amount (from_be_bytes-to_be_bytes_8 o.amount fits.amount) in
+    rw (eq-eqb _ _ p.len, p.body, fields_again o.limit fits.limit_fits, p.tag, nat_list_eq_equiv.refl (hmac key (limit_body o.limit)), n) refl
+
 -- ---- what a call answers
 
 pub if_limit : (key b : List ℕ) (r : Result Limit OrderErr) → IsBytes b → r ≡ limit_of key b → IfOk r FitsLimit → IfOk r (λ l. IsGoodLimit key b l)
@@ -139,3 +212,11 @@ limit_read key b l good = ap (limit_of key) good.written ∙ limit_again key l g
 
 pub order_read : (secret b : List ℕ) (o : Order) → IsGoodOrder secret b o → order_of secret b ≡ Ok o
 order_read secret b o good = ap (order_of secret) good.written ∙ order_again secret o good.fits
+
+pub if_offer : (key b : List ℕ) (r : Result Order OrderErr) → IsBytes b → r ≡ offer_of key b → IfOk r FitsOrder → IfOk r (λ o. IsOffer key b o)
+if_offer key b (Ok o) bytes e fits = offer_found key b o bytes fits (sym e)
+if_offer key b (Err d) bytes e fits = tt
+
+pub offer_read : (key b : List ℕ) (o : Order) → IsOffer key b o → offer_of key b ≡ Ok o
+unfolding offer_bytes
+offer_read key b o offer = ap (offer_of key) offer.written ∙ offer_again key offer.tag o offer.sized offer.fits

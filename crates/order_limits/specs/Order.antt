@@ -1,5 +1,5 @@
 -- The bytes of limits and orders.
-use Rattle.std.specs.Prelude.{◌≡◌, ℕ, zero, suc, ◌<◌, ◌^◌, List, [], ◌∷◌, ◌++◌, Option, Some, None}
+use Rattle.std.specs.Prelude.{◌≡◌, ℕ, zero, suc, ◌<◌, ◌^◌, List, [], ◌∷◌, ◌++◌, length, Option, Some, None}
 use Rattle.std.specs.Int.{w32, w64, to_be_bytes}
 use Rattle.order_limits.specs.Hmac.{hmac}
 use Rattle.order_limits.specs.Keys.{node_key, order_tag_of}
@@ -70,3 +70,10 @@ pub record IsGoodLimit (key bytes : List ℕ) (l : Limit) : Type 0 where
 pub record IsGoodOrder (secret bytes : List ℕ) (o : Order) : Type 0 where
   pub fits : FitsOrder o
   pub written : bytes ≡ order_bytes secret o
+
+-- the bytes are those of the order, with its limit's tag under the node's key, and some tag of its own
+pub record IsOffer (key bytes : List ℕ) (o : Order) : Type 0 where
+  pub fits : FitsOrder o
+  pub tag : List ℕ
+  pub sized : length tag ≡ 32
+  pub written : bytes ≡ limit_under key o.limit ++ to_be_bytes w64 o.amount ++ tag

@@ -60,3 +60,11 @@ order_of secret bytes =
     then Ok (record { limit = l; amount = number_in w64 83 bytes }) else Err no.OrderTag)
     else Err no.LimitTag)
     else Err (no.Length (length bytes))
+
+-- the order that the bytes are for the node of the key, whatever the order's own tag
+unfoldable pub offer_of : List ℕ → List ℕ → Result Order OrderErr
+offer_of key bytes =
+    if length bytes == 123 then (fields_of (part 0 51 bytes) >>= λ l.
+    if is_tag_of (part 51 32 bytes) key (part 0 51 bytes)
+    then Ok (record { limit = l; amount = number_in w64 83 bytes }) else Err no.LimitTag)
+    else Err (no.Length (length bytes))

@@ -8,6 +8,7 @@
 //! - [`Limit::write`] and [`Order::write`] give exactly the bytes of the format.
 //! - [`read_order`] and [`read_limit`] read one exactly where the bytes are one (`found`, `only`), and otherwise tell
 //!   the first cause, in the order of [`OrderErr`] (`exact`).
+//! - [`read_offer`] reads an order as its node can, which has no key for the order's own tag.
 //! - [`Grant`] gives the limits of an offer or a plan, which expire after [`LIFE`]; an order can be settled for
 //!   [`SETTLE_TIME`] more.
 //! - [`is_same`] says whether bytes that were given are a key or a tag.
@@ -30,5 +31,5 @@ pub use grant::{Grant, LIFE, SETTLE_TIME};
 pub use keys::Keys;
 pub use limit::{Action, Limit, Order};
 pub use mac::hmac;
-pub use read::{OrderErr, read_limit, read_order};
+pub use read::{OrderErr, read_limit, read_offer, read_order};
 pub use same::is_same;

@@ -1,8 +1,8 @@
 // Reading limits and orders. The refusals are tested in the order in which they are declared.
 ghost use Rattle.std.specs.Prelude.{◌≡◌, ◌≤◌, ◌+◌, length, IfOk};
 ghost use Rattle.std.specs.Int.{w32, w64};
-ghost use Rattle.order_limits.specs.Order.{IsGoodLimit, IsGoodOrder, FitsLimit, FitsOrder};
-ghost use Rattle.order_limits.specs.Read.{number_in, fields_of, is_tag_of, limit_of, order_of};
+ghost use Rattle.order_limits.specs.Order.{IsGoodLimit, IsGoodOrder, IsOffer, FitsLimit, FitsOrder};
+ghost use Rattle.order_limits.specs.Read.{number_in, fields_of, is_tag_of, limit_of, order_of, offer_of};
 
 use crate::bytes::bytes_at;
 use crate::keys::Keys;
@@ -145,6 +145,41 @@ fn checked_order(keys: &Keys, bytes: &[u8]) -> Result<Order, OrderErr>
     }
     if !is_same(tag, &order_tag(keys, limit.serial, limit.node, amount)) {
         return Err(OrderErr::OrderTag);
+    }
+    Ok(Order { limit, amount })
+}
+
+/// Reads an order of 123 bytes under the key of the node that its limit is for, as the node itself can. The order's own
+/// tag, which needs its serial's key, isn't tested.
+///
+/// The errors are the first four of [`OrderErr`], in their order.
+pub fn read_offer(node_key: &[u8; 32], bytes: &[u8]) -> Result<Order, OrderErr>
+    // An order is read exactly where the bytes are one, with some tag of 32 bytes.
+    ensures found { IfOk result (λ order. IsOffer node_key.now bytes.now order) }
+    ensures only { (order : Order) → IsOffer node_key.now bytes.now order → result ≡ Ok order }
+
+    // Where they aren't, it is the first refusal that holds.
+    ensures exact { result ≡ offer_of node_key.now bytes.now }
+{
+    checked_offer(node_key, bytes)
+}
+
+#[tactic(auto, unfolding(crate::specs::Read::offer_of))]
+fn checked_offer(node_key: &[u8; 32], bytes: &[u8]) -> Result<Order, OrderErr>
+    ensures exact { result ≡ offer_of node_key.now bytes.now }
+    ensures fits { IfOk result FitsOrder }
+{
+    if bytes.len() != 123 {
+        return Err(OrderErr::Length {
+            got: bytes.len() as u64,
+        });
+    }
+    let body = bytes_at(bytes, 0, 51);
+    let limit_tag = bytes_at(bytes, 51, 32);
+    let amount = u64_at(bytes, 83);
+    let limit = fields(body)?;
+    if !is_tag(limit_tag, node_key, body) {
+        return Err(OrderErr::LimitTag);
     }
     Ok(Order { limit, amount })
 }

@@ -1,5 +1,5 @@
 -- Rows one after another.
-use Rattle.std.proofs.Common.{◌≡◌, ℕ, zero, suc, ◌+◌, ◌≤◌, false, List, [], ◌∷◌, ◌++◌, length, take, Some, None, ap, subst, ◌∙◌, arith}
+use Rattle.std.proofs.Common.{◌≡◌, ℕ, zero, suc, ◌+◌, false, List, [], ◌∷◌, ◌++◌, take, Some, None, ap, subst, ◌∙◌, arith}
 use Rattle.std.specs.Prelude.{◌==◌, slice_get}
 use Rattle.std.specs.List.{sum_by}
 use Rattle.std.proofs.lemmas.Bool.Decides.{nat_tests}
@@ -18,20 +18,10 @@ take-got xs i x got = let next : i + 1 ≡ suc i = omega arith in ap (λ (n : �
 pub sum-got : {X : Type 0} (f : X → ℕ) (xs : List X) (i : ℕ) (x : X) → slice_get xs i ≡ Some x → sum_by f (take (i + 1) xs) ≡ sum_by f (take i xs) + f x
 sum-got f xs i x got = ap (sum_by f) (take-got xs i x got) ∙ sum_by_push f (take i xs) x
 
-pub each-got : {X : Type 0} (P : X → Type 0) (xs : List X) (i : ℕ) (x : X) → Each P xs → slice_get xs i ≡ Some x → P x
-each-got P [] i x each got = absurd cc
-each-got P (y ∷ ys) zero x each got = let same : y ≡ x = cc in subst P same each.0
-each-got P (y ∷ ys) (suc i) x each got = each-got P ys i x each.1 got
-
 pub each-take : {X : Type 0} (P : X → Type 0) (i : ℕ) (xs : List X) → Each P xs → Each P (take i xs)
 each-take P zero xs each = tt
 each-take P (suc i) [] each = tt
 each-take P (suc i) (x ∷ xs) each = (each.0, each-take P i xs each.1)
-
-pub take-most : {X : Type 0} (i : ℕ) (xs : List X) → length (take i xs) ≤ length xs
-take-most zero xs = omega arith
-take-most (suc i) [] = omega arith
-take-most (suc i) (x ∷ xs) = omega (arith, take-most i xs)
 
 -- the rank of each row is there
 pub not-there : {X : Type 0} (rank : X → ℕ) (xs : List X) (i k : ℕ) (x : X) → row_at rank xs k ≡ None → slice_get xs i ≡ Some x → (rank x == k) ≡ false

@@ -67,7 +67,7 @@ impl Balances {
         }
     }
 
-    /// Makes a slot for a node, if it has none. Want of memory leaves all as it was.
+    /// Makes a slot for a node, if it has none. Running out of memory leaves all as it was.
     pub fn place(&mut self, node: NodeId) -> Result<(), NoMemory>
         ensures rows { self.new.rows ≡ self.old.rows }
         ensures placed { OnOk result (has_slot self.new node.0 ≡ true) }
@@ -76,7 +76,7 @@ impl Balances {
         self.table.place(u128::from(node.0))
     }
 
-    /// Makes slots for the nodes of these pieces. Want of memory leaves all amounts, and all slots that were there.
+    /// Makes slots for the nodes of these pieces. Running out of memory leaves all amounts, and all slots that were there.
     pub fn place_all(&mut self, pieces: &[At]) -> Result<(), NoMemory>
         ensures rows { self.new.rows ≡ self.old.rows }
         ensures placed { OnOk result (Each (λ piece. has_slot self.new piece.node.0 ≡ true) pieces.now) }

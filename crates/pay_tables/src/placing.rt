@@ -23,7 +23,7 @@ fn month_of_hour(hour: u64) -> Month
 }
 
 impl PayTables {
-    /// Makes room for an order that settles. Want of memory leaves all rows, and all room that was there.
+    /// Makes room for an order that settles. Running out of memory leaves all rows, and all room that was there.
     pub fn place_order(&mut self, row: &SettledRow) -> Result<(), NoMemory>
         ensures rows { KeepsRows self.old self.new }
         ensures places { KeepsPlaces self.old self.new }
@@ -34,7 +34,7 @@ impl PayTables {
         Ok(())
     }
 
-    /// Makes room for a tally. Want of memory leaves all rows, and all room that was there.
+    /// Makes room for a tally. Running out of memory leaves all rows, and all room that was there.
     pub fn place_tally(&mut self, tally: &Tally) -> Result<(), NoMemory>
         requires { tally.now.hour.0 * 3600 < 2 ^ 36 }
         ensures rows { KeepsRows self.old self.new }
@@ -47,7 +47,7 @@ impl PayTables {
         Ok(())
     }
 
-    /// Makes room for a statement. Want of memory leaves all rows, and all room that was there.
+    /// Makes room for a statement. Running out of memory leaves all rows, and all room that was there.
     pub fn place_statement(&mut self, statement: &Statement) -> Result<(), NoMemory>
         ensures rows { KeepsRows self.old self.new }
         ensures places { KeepsPlaces self.old self.new }
@@ -58,7 +58,7 @@ impl PayTables {
         Ok(())
     }
 
-    /// Makes room for the bytes of these pieces. Want of memory leaves all rows, and all room that was there.
+    /// Makes room for the bytes of these pieces. Running out of memory leaves all rows, and all room that was there.
     pub fn place_pieces(&mut self, pieces: &[At]) -> Result<(), NoMemory>
         ensures rows { KeepsRows self.old self.new }
         ensures places { KeepsPlaces self.old self.new }

@@ -16,6 +16,7 @@ use Rattle.placement.specs.declared.request.Class.{Class}
 use Rattle.placement.specs.declared.request.Class.TheVariants.{Vetted, Unvetted}
 use Rattle.placement.specs.Eligible.{Terms, is_open, is_of, is_eligible, subnet_of, used, eligible, eligible_of, next_pick, subnet_count}
 use Rattle.placement.specs.Placed.{IsDrawn, ArePicks, nothing, one_more}
+use Rattle.sat_base.proofs.Tests.{both-ways}
 
 -- ---- filters
 
@@ -183,12 +184,6 @@ all-met terms picks vetted unvetted k d lt =
     none_left : (nodes : List Node) → nodes ≡ [] → (node : Node) → Got nodes node → ⊥
     none_left [] is node got = cc
     none_left (first ∷ nodes) is node got = cc
-
-both-ways : (a b : Bool) → (a ≡ true → b ≡ true) → (b ≡ true → a ≡ true) → a ≡ b
-both-ways true true to from = refl
-both-ways true false to from = sym (to refl)
-both-ways false true to from = from refl
-both-ways false false to from = refl
 
 -- where both classes have no node left, there are as many picks as subnets
 all-picked : (terms : Terms) (picks : List Node) → AreSpread terms picks → eligible_of terms Vetted picks ≡ [] → eligible_of terms Unvetted picks ≡ [] → length picks ≡ subnet_count terms

@@ -14,7 +14,7 @@ use std::alloc::Global;
 pub enum PlaceErr {
     /// The eligible nodes are in too few subnets, so many.
     Few { chosen: u8 },
-    /// Memory for the picks is wanting.
+    /// There is no memory for the picks.
     NoMemory,
 }
 

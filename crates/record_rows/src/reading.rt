@@ -26,7 +26,7 @@ pub fn read(alloc: Global, row: &Row) -> Result<Rec, RowErr>
     ensures only { (rec : Rec) → Fits rec → row.now ≡ row_of rec → result ≢ Err RowErr.NoMemory
         → result ≡ Ok rec }
 
-    // The causes. Where memory is wanting, any of them may be told so.
+    // The causes. Where memory runs out, any of them may be told so.
     ensures kind { (result ≡ Err RowErr.Kind) ↔ IsNoKind row.now.kind }
     ensures id { result ≡ Err RowErr.Id → IsKind row.now.kind × HasNoId row.now }
     ensures no_id { IsKind row.now.kind → HasNoId row.now

@@ -6,6 +6,7 @@ use Rattle.std.proofs.lemmas.Bool.{cases_lt}
 use Rattle.std.proofs.lemmas.List.{length-take-le, length-drop, drop-take, take-take, drop-drop, get_or_append_left, get_or-append-add}
 use Rattle.std.proofs.lemmas.List.Elements.{All-head, All-tail, All-take, All-drop}
 use Rattle.std.proofs.lemmas.List.FromFn.{fill_by_all}
+use mathlib.Core.Bool.{or-false}
 use Rattle.sat_base.specs.declared.items.Share.{Share}
 use Rattle.rs_stripe.specs.Segment.{run}
 use Rattle.bw_decode.specs.Altered.{is_altered, indexes_of}
@@ -17,7 +18,7 @@ use Rattle.repair_core.specs.Stripes.{IsStripe, HasNear, IsNoneNear, IsUnclear, 
 use Rattle.repair_core.specs.Rebuilt.{IsRebuilt, stripes_of}
 use Rattle.repair_core.specs.Progress.{Progress}
 use Rattle.repair_core.specs.Windows.{empty_piece, start_of, next_stripes, after, cut_of, window_of, IsWindow, IsUnclearWindow, Reaches, AreWhole, IsUnderWay}
-use Rattle.repair_core.proofs.Marks.{or_assoc, or_false}
+use Rattle.repair_core.proofs.Marks.{or_assoc}
 use Rattle.repair_core.proofs.Mending.{indexes_of-answers_at}
 use Rattle.repair_core.proofs.Steps.{any_below_agree, has_either, filter_nothing, longer_twice, longer_nothing}
 use Rattle.repair_core.proofs.Rising.{filter_agree_on, joined_is, kept_are, all_filtered, rises_filtered, all_below}
@@ -57,7 +58,7 @@ cut_answers size count from number i (p ∷ ps) long fits within =
 
 -- ---- which pieces are altered
 any_below_split : (m n : ℕ) (f : ℕ → Bool) → any_below (m + n) f ≡ (any_below m f || any_below n (λ i. f (m + i)))
-any_below_split m zero f = let none : m + 0 ≡ m = omega arith in ap (λ k. any_below k f) none ∙ sym (or_false (any_below m f))
+any_below_split m zero f = let none : m + 0 ≡ m = omega arith in ap (λ k. any_below k f) none ∙ sym (or-false (any_below m f))
 any_below_split m (suc n) f =
     let next : m + suc n ≡ suc (m + n) = omega arith in
     ap (λ k. any_below k f) next

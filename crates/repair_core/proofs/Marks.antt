@@ -5,6 +5,7 @@ use Rattle.std.proofs.lemmas.Grind.{common_steps}
 use Rattle.std.proofs.lemmas.List.{take_more, map-append, get_or-map, append-nil}
 use Rattle.std.proofs.lemmas.List.Elements.{filter-append}
 use Rattle.std.proofs.lemmas.List.Folds.{list_any-append}
+use mathlib.Core.Bool.{or-false}
 use Rattle.sat_base.specs.declared.items.Share.{Share}
 use Rattle.bw_decode.specs.Altered.{indexes_of}
 use Rattle.bw_decode.proofs.NearStripes.{index_at, indexes_length}
@@ -20,10 +21,6 @@ has_index-cons x xs index = refl
 pub or_assoc : (a b c : Bool) → ((a || b) || c) ≡ (a || (b || c))
 or_assoc true b c = refl
 or_assoc false b c = refl
-
-pub or_false : (a : Bool) → (a || false) ≡ a
-or_false true = refl
-or_false false = refl
 
 pub index_below : (m : ℕ) (answers : List Share) (i : ℕ) (a : Share) → i < length answers → All (λ index. index < m) (indexes_of answers)
     → (get_or answers i a).index < m
@@ -56,7 +53,7 @@ pub has_more_marked : (test : Share → Bool) (answers : List Share) (marks : Li
 has_more_marked test answers marks i d index within are is =
     rw (filtered_more test answers i d within, mark_of test answers marks i d true within are is)
     (has_index-append (indexes_of (filter test (take i answers))) ((get_or answers i d).index ∷ []) index
-    ∙ ap (λ b. has_index (indexes_of (filter test (take i answers))) index || b) (or_false ((get_or answers i d).index == index)))
+    ∙ ap (λ b. has_index (indexes_of (filter test (take i answers))) index || b) (or-false ((get_or answers i d).index == index)))
 
 pub has_more_unmarked : (test : Share → Bool) (answers : List Share) (marks : List Bool) (i : ℕ) (d : Share) (index : ℕ) → i < length answers
     → marks ≡ map test answers → get_or marks i false ≡ false

@@ -13,10 +13,10 @@ use Rattle.repair_core.specs.Indexes.{has_index, joined}
 rises_tail : (x : ℕ) (xs : List ℕ) → Rises (x ∷ xs) → Rises xs
 rises_tail x xs rises i j before within = rises (suc i) (suc j) (omega arith) (omega arith)
 
-rises_head : (x : ℕ) (xs : List ℕ) → Rises (x ∷ xs) → All (λ y. x < y) xs
+pub rises_head : (x : ℕ) (xs : List ℕ) → Rises (x ∷ xs) → All (λ y. x < y) xs
 rises_head x xs rises k d within = rw (get_or_default xs k d 0 within) (rises 0 (suc k) (omega arith) (omega arith))
 
-rises_cons : (x : ℕ) (xs : List ℕ) → All (λ y. x < y) xs → Rises xs → Rises (x ∷ xs)
+pub rises_cons : (x : ℕ) (xs : List ℕ) → All (λ y. x < y) xs → Rises xs → Rises (x ∷ xs)
 rises_cons x xs above rises i zero before within = absurd (omega arith)
 rises_cons x xs above rises zero (suc j) before within = above j 0 (omega arith)
 rises_cons x xs above rises (suc i) (suc j) before within = rises i j (omega arith) (omega arith)
@@ -53,7 +53,7 @@ above_not a b h = grind (arith, nat_tests)
 other_way : (x y : ℕ) → (y ≡ x → ⊥) → (x == y) ≡ false
 other_way x y ne = elim (eqb_tells x y) [ inl p ↦ absurd (ne (sym p.1)) | inr p ↦ p.0 ]
 
-has_above : (x : ℕ) (ys : List ℕ) → All (λ y. x < y) ys → has_index ys x ≡ false
+pub has_above : (x : ℕ) (ys : List ℕ) → All (λ y. x < y) ys → has_index ys x ≡ false
 has_above x ys above = list_any_none (λ one. one == x) ys (λ k d h. above_not x (get_or ys k d) (above k d h))
 
 has_skip : (x y : ℕ) (xs : List ℕ) → (x == y) ≡ false → has_index (x ∷ xs) y ≡ true → has_index xs y ≡ true

@@ -6,6 +6,7 @@ use Rattle.std.proofs.lemmas.Bool.{cases_lt}
 use Rattle.std.proofs.lemmas.List.{append-nil, map-append, length_push, get_or_append_left, get_or_push}
 use Rattle.std.proofs.lemmas.List.Elements.{filter_agree}
 use Rattle.std.proofs.lemmas.List.Folds.{concat-append}
+use mathlib.Core.Bool.{or-false}
 use Rattle.sat_base.specs.declared.items.Share.{Share}
 use Rattle.rs_stripe.specs.Segment.{share_of}
 use Rattle.bw_decode.specs.Altered.{is_altered, indexes_of}
@@ -13,7 +14,7 @@ use Rattle.repair_core.specs.Answers.{answer_at, answers_at}
 use Rattle.repair_core.specs.Indexes.{has_index}
 use Rattle.repair_core.specs.Stripes.{IsStripe, IsNoneNear, IsUnclear, AreNear, any_below, is_ever_altered, altered_indexes, longer}
 use Rattle.repair_core.specs.Room.{cut_short, IsMended, IsSoFar, AreMended, AreKept}
-use Rattle.repair_core.proofs.Marks.{or_assoc, or_false}
+use Rattle.repair_core.proofs.Marks.{or_assoc}
 
 -- ---- tests below a number
 pub any_below_agree : (n : ℕ) (f g : ℕ → Bool) → ((s : ℕ) → s < n → f s ≡ g s) → any_below n f ≡ any_below n g
@@ -120,7 +121,7 @@ so_far_none k size count pieces done marks fresh =
     let same : (done + 0) * size ≡ done * size = omega arith in
     record {
       near = λ s h. absurd (omega (arith, h));
-      marks_are = λ index. sym (ap (λ (xs : List ℕ). slice_index_or marks index false || has_index xs index) none ∙ or_false (slice_index_or marks index false));
+      marks_are = λ index. sym (ap (λ (xs : List ℕ). slice_index_or marks index false || has_index xs index) none ∙ or-false (slice_index_or marks index false));
       fresh_are = ap (λ len. map (cut_short len) fresh) same ∙ sym (longer_nothing k size (map (cut_short (done * size)) fresh));
     }
 

@@ -61,7 +61,7 @@ fn keep_marked(mut indexes: Vec<u8>, marks: &[bool]) -> Indexes
 }
 
 impl Made {
-    /// Nothing, with room for the fresh pieces of the plan. Its one error is want of memory.
+    /// Nothing, with room for the fresh pieces of the plan. It fails only where memory runs out.
     pub fn new(alloc: Global, scheme: &Scheme, plan: &RepairPlan) -> Result<Made, NoMemory>
         requires len { plan.now.len ≤ 2 ^ 40 }
         requires targets { All (λ index. index < scheme.now.n) (place_indexes plan.now.targets) }

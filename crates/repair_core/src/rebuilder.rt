@@ -45,7 +45,7 @@ impl Model for Rebuilder {
 
 impl Rebuilder {
     /// A rebuilding by the plan in windows of so many stripes. It takes all memory that is needed: the fresh pieces,
-    /// and room for one stripe and its answers. Its one error is want of memory.
+    /// and room for one stripe and its answers. It fails only where memory runs out.
     pub fn new(
         alloc: Global,
         scheme: &Scheme,

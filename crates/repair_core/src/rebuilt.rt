@@ -19,7 +19,7 @@ pub enum RebuildErr {
     Few { answered: u8 },
     /// No stripe is near what the pieces answer for this one, which is the first such.
     Unclear { stripe: u64 },
-    /// Memory was wanting.
+    /// Memory ran out.
     NoMemory,
 }
 

@@ -19,7 +19,7 @@ pub(crate) struct Room {
 }
 
 impl Room {
-    /// Room for as many answers. Its one error is want of memory.
+    /// Room for as many answers. It fails only where memory runs out.
     pub fn new(alloc: Global, scheme: &Scheme, places: usize) -> Result<Room, NoMemory>
         ensures room { IfOk result (λ room. IsRoom scheme.now.k scheme.now.share room.answers.items room.spares.items room.stripe.items) }
         ensures places { IfOk result (λ room. length room.answers.items ≡ places) }

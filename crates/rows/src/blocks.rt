@@ -77,7 +77,7 @@ impl<R: Ranked + Copy> BlockRows<R> {
         self.count
     }
 
-    /// Makes room for one more row. Want of memory leaves the rows as they were.
+    /// Makes room for one more row. Running out of memory leaves the rows as they were.
     pub fn reserve(&mut self) -> Result<(), NoMemory>
         ensures rows { self.new.rows ≡ self.old.rows }
         ensures ok { OnOk result (self.new.spare ≡ 1) }

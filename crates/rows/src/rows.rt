@@ -84,7 +84,7 @@ impl<R: Ranked> Rows<R> {
         self.rows.get(0)
     }
 
-    /// Makes room for `n` more rows. Want of memory leaves the rows as they were.
+    /// Makes room for `n` more rows. Running out of memory leaves the rows as they were.
     pub fn reserve(&mut self, n: usize) -> Result<(), NoMemory>
         ensures rows { self.new.rows ≡ self.old.rows }
         ensures ok { OnOk result (n ≤ self.new.spare) }

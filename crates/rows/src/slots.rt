@@ -91,7 +91,7 @@ impl<R: Ranked> SlottedRows<R> {
         first_row(self.map.range((Bound::Excluded(rank), Bound::Unbounded)))
     }
 
-    /// Makes a slot for a rank, if it has none. Want of memory leaves rows and slots as they were.
+    /// Makes a slot for a rank, if it has none. Running out of memory leaves rows and slots as they were.
     pub fn place(&mut self, rank: u128) -> Result<(), NoMemory>
         ensures rows { self.new.rows ≡ self.old.rows }
         ensures placed { OnOk result (has_slot self.new rank ≡ true) }

@@ -12,6 +12,7 @@ use Rattle.rs_stripe.specs.Segment.{tabulate, share_of, stripe_of}
 use Rattle.rs_stripe.specs.Weights.{weighted, AreWeights, AreMatrix}
 use Rattle.rs_stripe.specs.Encoding.{filled}
 use Rattle.rs_stripe.proofs.SegmentLemmas.{length-share_of, share_byte, stripe_byte}
+use Rattle.gf_linear.proofs.Entries.{place-lt}
 
 pub same_weights : (k j : ℕ) (w v : ℕ → ℕ) → AreWeights k j w → ((i : ℕ) → i < k → w i ≡ v i) → AreWeights k j v
 same_weights k j w v weights same d =
@@ -65,11 +66,6 @@ matrix_more k indexes t j matrix row rest fits len rows is weights r below = go 
         sym (get_or-append_right (take (t * k) matrix) (row ++ rest) (t * k) (t * k + i) 0 front (omega arith)
         ∙ ap (slice_index (row ++ rest)) at ∙ get_or_append_left row rest 0 i (omega arith))))
 
--- place c of row i lies within the stripe
-within : (k size i c : ℕ) → i < k → c < size → i * size + c < k * size
-within k size i c hi hc =
-    let rows : size * (i + 1) ≤ size * k = mul-le-mul_left size (omega arith) in omega arith
-
 -- a list of the weighted sums of a stripe's columns, whose bytes are b, is the stripe's share
 pub share_from_sums : (k size j m : ℕ) (w b : ℕ → ℕ) (stripe out : List ℕ) → AreWeights k j w → m ≡ k
     → ((p : ℕ) → p < k * size → slice_index stripe p ≡ b p)
@@ -89,7 +85,7 @@ share_from_sums k size j m w b stripe out weights rows same len sums =
     each c h =
         sums_of_size c h
         ∙ total_agree k (λ i. w i ⊗ b (i * size + c)) (λ i. w i ⊗ slice_index stripe (i * size + c))
-        (λ i l. ap (λ z. w i ⊗ z) (sym (same (i * size + c) (within k size i c l h))))
+        (λ i l. ap (λ z. w i ⊗ z) (sym (same (i * size + c) (place-lt k size i c l h))))
         ∙ sym (weights (λ i. slice_index stripe (i * size + c))) ∙ sym (share_byte k size stripe j c h)
 
 -- ---- the stripe that an encoder holds
@@ -120,7 +116,7 @@ share_of_agree k size j a b same =
     let l : c < size = omega (arith, length-share_of k size a j) in
     share_byte k size a j c l
     ∙ lagrange_agree k (λ i. i) (λ i. slice_index a (i * size + c)) (λ i. slice_index b (i * size + c))
-    (λ i hi. same (i * size + c) (within k size i c hi l)) j
+    (λ i hi. same (i * size + c) (place-lt k size i c hi l)) j
     ∙ sym (share_byte k size b j c l))
 
 -- a held run of a segment has the shares of the segment's stripe

@@ -37,7 +37,7 @@ impl Service {
         Ok(Service { state })
     }
 
-    /// The same service, for one more device. The error is want of memory, or of numbers.
+    /// The same service, for one more device. It fails where memory runs out, or numbers do.
     pub fn share(&self) -> Result<Service, NoMemory> {
         let state = Arc::try_clone(&self.state)?;
         Ok(Service { state })

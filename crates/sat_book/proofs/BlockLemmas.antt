@@ -1,6 +1,6 @@
 -- The rows of all kinds, one behind the other, as those of one kind change.
 use Rattle.std.proofs.Common.{◌≡◌, ℕ, Bool, true, false, cond, List, [], ◌∷◌, ◌++◌, Option, Some, None, refl, sym, ap, ◌∙◌}
-use Rattle.std.specs.Prelude.{map, not, ◌==◌, ◌&&◌}
+use Rattle.std.specs.Prelude.{map, not, ◌==◌}
 use Rattle.std.specs.List.{list_all}
 use Rattle.std.proofs.lemmas.Bool.Decides.{nat_tests}
 use Rattle.std.proofs.Common.{arith}
@@ -9,6 +9,7 @@ use Rattle.sat_base.specs.Rows.{Key, entry}
 use Rattle.sat_book.specs.TableRows.{joined}
 use Rattle.sat_book.proofs.FindLemmas.{ties, tied, at_key}
 use Rattle.machine_step.specs.Bounds.{Each}
+use Rattle.turnstile.proofs.Histories.{free_step}
 
 abbrev pub Entries : Type 0
 Entries = List (Key × List ℕ)
@@ -57,14 +58,10 @@ Puts key v old new = (q : Key) → at_key q new ≡ cond (ties q key) v (at_key 
 abbrev pub all_apart : ℕ → List Block → Bool
 all_apart kind blocks = list_all (λ block. not (block.kind == kind)) blocks
 
-both : (a b : Bool) → (not a && b) ≡ true → (a ≡ false) × (b ≡ true)
-both true b e = cc
-both false b e = (refl, e)
-
 none_among : (key q : Key) (blocks : List Block) → all_apart key.0 blocks ≡ true → q ≡ key → at_key q (all_entries blocks) ≡ None
 none_among key q [] apart here = refl
 none_among key q (block ∷ rest) apart here =
-    let parts = both (block.kind == key.0) (list_all (λ block. not (block.kind == key.0)) rest) apart in
+    let parts = free_step (block.kind == key.0) (list_all (λ block. not (block.kind == key.0)) rest) apart in
     let first : at_key q block.entries ≡ None = at_other q block.kind block.entries block.own (ap (λ (k : Key). block.kind == k.0) here ∙ parts.0) in
     at_behind q block.entries (all_entries rest)
     ∙ ap (λ (o : Option (List ℕ)). first_of o (at_key q (all_entries rest))) first
@@ -102,7 +99,7 @@ pub puts_among : (key : Key) (v : Option (List ℕ)) (before : List Block) (old 
     → Puts key v old.entries new.entries → Puts key v (all_entries (before ++ old ∷ after)) (all_entries (before ++ new ∷ after))
 puts_among key v [] old new after apart behind puts = puts_front key v old.entries new.entries after behind puts
 puts_among key v (block ∷ before) old new after apart behind puts =
-    let parts = both (block.kind == key.0) (list_all (λ block. not (block.kind == key.0)) before) apart in
+    let parts = free_step (block.kind == key.0) (list_all (λ block. not (block.kind == key.0)) before) apart in
     puts_behind key v block (all_entries (before ++ old ∷ after)) (all_entries (before ++ new ∷ after)) parts.0 (puts_among key v before old new after parts.1 behind puts)
 
 -- ---- a record of which there is one at most

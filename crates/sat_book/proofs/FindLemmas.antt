@@ -1,9 +1,7 @@
 -- How the rows of one kind answer to their keys, as one record is put or removed.
 use Rattle.std.proofs.Common.{◌≡◌, ℕ, Bool, true, false, cond, List, [], ◌∷◌, Option, Some, None, refl, sym, ap, ◌∙◌}
 use Rattle.std.specs.Prelude.{map, not, ◌==◌, nat_lt, if◌then◌else◌}
-use Rattle.std.specs.declared.cmp.Ordering.{Ordering}
-use Rattle.std.specs.declared.cmp.Ordering.TheVariants.{Less, Equal, Greater}
-use Rattle.std.specs.Ordering.{eq_by_cmp, is_eq}
+use Rattle.std.specs.Ordering.{eq_by_cmp}
 use Rattle.std.specs.FinMap.{find}
 use Rattle.sat_base.specs.declared.rows.Row.{Row}
 use Rattle.sat_base.specs.Rows.{Key, key_cmp, key_of, entry}
@@ -11,15 +9,11 @@ use Rattle.sat_base.proofs.KeyOrder.{keys_exact}
 use Rattle.rows.specs.Rows.{without}
 use Rattle.rows.specs.Slots.{with_row}
 use Rattle.machine_step.specs.Bounds.{Each}
+use Rattle.sat_base.proofs.Tests.{equal, exchanged}
 
 -- two keys are the same
 abbrev pub ties : Key → Key → Bool
 ties one other = eq_by_cmp key_cmp one other
-
-pub equal : (o : Ordering) → is_eq o ≡ true → o ≡ Equal
-equal Less e = cc
-equal Equal e = refl
-equal Greater e = cc
 
 -- only equal keys tie
 pub tied : (one other : Key) → ties one other ≡ true → one ≡ other
@@ -34,11 +28,6 @@ at_key q es = find key_cmp q es
 absorbed : {A : Type 0} (a b : Bool) (x y z : A) → b ≡ a → cond a x z ≡ cond a x (cond b y z)
 absorbed true b x y z e = refl
 absorbed false b x y z e = rw e refl
-
-exchanged : {A : Type 0} (a b : Bool) (x y z : A) → (a ≡ true → b ≡ true → ⊥) → cond a x (cond b y z) ≡ cond b y (cond a x z)
-exchanged true true x y z apart = absurd (apart refl refl)
-exchanged true false x y z apart = refl
-exchanged false b x y z apart = refl
 
 pub cond_same : {A : Type 0} (b : Bool) (x : A) → x ≡ cond b x x
 cond_same true x = refl

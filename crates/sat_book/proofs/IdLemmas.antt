@@ -11,7 +11,8 @@ use Rattle.settlement.specs.declared.row.SettledRow.{SettledRow}
 use Rattle.settlement.specs.Place.{place}
 use Rattle.settlement.specs.Rows.{key}
 use Rattle.record_rows.specs.Laws.Apart.{be32_apart, be64_apart}
-use Rattle.sat_book.proofs.FindLemmas.{ties, tied, equal}
+use Rattle.sat_book.proofs.FindLemmas.{ties, tied}
+use Rattle.sat_base.proofs.Tests.{equal}
 
 -- a key ties with itself
 pub own_tie : (key : Key) → ties key key ≡ true

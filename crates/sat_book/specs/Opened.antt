@@ -153,7 +153,7 @@ pub record AddsRecords (takes : Bool) (parts : Parts0) (rows : List Row) (result
   pub all : listed result ≡ listed parts ++ recs
   pub no_tariff : takes ≡ false → Each (λ rec. kind_of rec ≡ kinds.TARIFF → ⊥) recs
 
--- an error names this row, unless memory was wanting
+-- an error names this row, unless memory ran out
 abbrev pub Names : Row → OpenErr → Type 0
 Names row (errs.BadRow kind id) = (kind ≡ row.kind) × (id ≡ row.id)
 Names row errs.NoMemory = Unit {0}

@@ -8,7 +8,7 @@ ghost use Rattle.sat_book.specs.Ids.{AreIds};
 ghost use Rattle.sat_book.specs.Kept.{AreWritten, Answers};
 
 use crate::changes::row_changes;
-use machine_calls::are_bytes;
+use machine_calls::{Wish, are_bytes};
 use sat_base::{Committed, Keeper};
 use sat_machine::{Call, Core, Prepared, Reply};
 use std::alloc::Global;
@@ -78,8 +78,12 @@ fn no_memory() -> Answer
 fn read_bytes(call: &Call)
     ensures { HasBytes call.now }
 {
-    if let Call::Settle { bytes, .. } = call {
-        are_bytes(bytes.as_slice());
+    match call {
+        Call::Asked { wish, .. } => match wish {
+            Wish::Settle { bytes, .. } => are_bytes(bytes.as_slice()),
+            _ => {}
+        },
+        Call::Own { .. } => {}
     }
 }
 

@@ -2,6 +2,7 @@
 use Rattle.std.proofs.Common.{◌≡◌, ℕ, zero, suc, ◌<◌, ◌≤◌, List, [], ◌∷◌, Option, Some, None, Result, Ok, Err, Bool, true, false, cond, eqb, refl, sym, ap, subst, ◌∙◌, arith}
 use Rattle.std.proofs.lemmas.Bool.{eq-eqb, ne_eqb}
 use Rattle.std.specs.Prelude.{slice_get, option_map}
+use Rattle.std.proofs.lemmas.Option.{same_Some}
 use Rattle.sat_base.specs.declared.ids.NodeId.{NodeId}
 use Rattle.order_limits.specs.Read.{order_of}
 use Rattle.order_limits.specs.declared.limit.Order.{Order}
@@ -69,16 +70,13 @@ answer_at secret cap rows lines j = slice_get (answers_from secret cap rows line
 abbrev settled_answer : Result Settlable SettleErr → Option Answer
 settled_answer s = Some (Some (settled_as s))
 
-some_is : (a b : List ℕ) → Some a ≡ Some b → a ≡ b
-some_is a b e = cc
-
 -- wherever an order comes beside a row of its serial and node
 later : (secret : List ℕ) (cap : ℕ) (rows : List SettledRow) (lines : List (List ℕ)) (j : ℕ) (p : Order) (r : SettledRow)
     → row_of rows (place p.limit.serial p.limit.node) ≡ Some r → PresentsAt secret lines j p
     → answer_at secret cap rows lines j ≡ settled_answer (repeated r.amount p.amount)
 later secret cap rows [] j p r there at = absurd (let e = at.1 in cc)
 later secret cap rows (line ∷ lines) zero p r there at =
-    let is : line ≡ at.0 = some_is _ _ at.1 in
+    let is : line ≡ at.0 = same_Some _ _ at.1 in
     rw (is, presented secret cap rows at.0 p at.2, beside_row rows cap at.2.asked.node at.2.asked.moment p r at.2.own there) refl
 later secret cap rows (line ∷ lines) (suc j) p r there at =
     later secret cap (rows_behind rows (line_settlable secret cap rows line)) lines j p r (keeps secret cap rows line _ r there) at
@@ -121,7 +119,7 @@ repeat_answer : (secret : List ℕ) (cap : ℕ) (rows : List SettledRow) (lines 
 repeat_answer secret cap rows [] i j a o p lt at next same settled = absurd (let e = at.1 in cc)
 repeat_answer secret cap rows (line ∷ lines) i zero a o p lt at next same settled = absurd (omega arith)
 repeat_answer secret cap rows (line ∷ lines) zero (suc j) a o p lt at next same settled =
-    let here : Presents secret line o = subst (λ (l : List ℕ). Presents secret l o) (sym (some_is _ _ at.1)) at.2 in
+    let here : Presents secret line o = subst (λ (l : List ℕ). Presents secret l o) (sym (same_Some _ _ at.1)) at.2 in
     let first = settles secret cap rows line o a here settled in
     let there : row_of (behind secret cap rows line) (place p.limit.serial p.limit.node) ≡ Some first.0 = rw (← same_place o p same) first.1 in
     (later secret cap (behind secret cap rows line) lines j p first.0 there next ∙ ap (λ n. settled_answer (repeated n p.amount)) first.2, first.3)
@@ -152,14 +150,11 @@ presents secret cap rows line a e =
     let o = some_order rows cap q.0.node q.0.moment (order_of secret q.0.order) a (ap Some (rw q.1 at e)) in
     (o.0, record { asked = q.0; form = q.1; reads = o.1; own = o.2 })
 
-answer_is : (x y : Answer) → Some x ≡ Some y → x ≡ y
-answer_is x y e = cc
-
 within_at : (secret : List ℕ) (cap : ℕ) (rows : List SettledRow) (lines : List (List ℕ)) (i a : ℕ) → answer_at secret cap rows lines i ≡ Some (Some (Ok (did.Settled a)))
     → (o : Order) × PresentsAt secret lines i o × (o.amount ≡ a) × (a ≤ o.limit.limit)
 within_at secret cap rows [] i a e = absurd cc
 within_at secret cap rows (line ∷ lines) zero a e =
-    let p = presents secret cap rows line a (answer_is _ _ e) in
+    let p = presents secret cap rows line a (same_Some _ _ e) in
     let s = settles secret cap rows line p.0 a p.1 e in
     (p.0, (line, refl, p.1), s.3, s.4)
 within_at secret cap rows (line ∷ lines) (suc i) a e = within_at secret cap (behind secret cap rows line) lines i a e

@@ -4,6 +4,7 @@ use Rattle.std.specs.Prelude.{MatchResult}
 use Rattle.std.proofs.lemmas.List.{length-append, append-nil, take_all}
 use Rattle.sat_base.specs.Outside.{About, KeepsInput, with_front, with_end, Rose}
 use Rattle.std.proofs.lemmas.Slice.{between_from_start}
+use Rattle.std.proofs.lemmas.Option.{same_Some}
 use Rattle.sat_base.specs.Streams.{Took}
 use Rattle.sat_base.specs.declared.items.Share.{Share}
 use Rattle.sat_console.specs.Judge.{Judges, RefusesLine, shares_of}
@@ -161,16 +162,13 @@ module _ (IsText IsRefusal : List ℕ → List ℕ → Type 0) where
 
 -- ---- completeness
 
-some_is : (a b : List ℕ) → Some a ≡ Some b → a ≡ b
-some_is a b e = cc
-
 taken_len : (o : Option (List ℕ)) (input bytes : List ℕ) → with_front input o ≡ Some bytes → length input ≤ length bytes
 taken_len None input bytes e = absurd cc
-taken_len (Some rest) input bytes e = omega (arith, ap length (some_is _ _ e), length-append input rest)
+taken_len (Some rest) input bytes e = omega (arith, ap length (same_Some _ _ e), length-append input rest)
 
 all_taken : (o : Option (List ℕ)) (input bytes : List ℕ) → with_front input o ≡ Some bytes → ((l : List ℕ) → o ≡ Some l → l ≡ []) → input ≡ bytes
 all_taken None input bytes e none = absurd cc
-all_taken (Some rest) input bytes e none = sym (append-nil input) ∙ ap (λ r. input ++ r) (sym (none rest refl)) ∙ some_is _ _ e
+all_taken (Some rest) input bytes e none = sym (append-nil input) ∙ ap (λ r. input ++ r) (sym (none rest refl)) ∙ same_Some _ _ e
 
 module _ (IsText IsRefusal : List ℕ → List ℕ → Type 0) (old new : About) (status : ℕ) (bytes : List ℕ) (r : Ran IsText IsRefusal old new status) (told : old.left ≡ Some bytes) where
   -- a run that answers its input took all of it
@@ -214,14 +212,14 @@ judged k size old new status bytes r told (inl (inl z)) (Err number) e =
     let answered = r.answered z in
     absurd (taken_refused bytes answered.1.shares number (ap shares_of (sym same) ∙ answered.1.are) e)
 
--- `judge` ends by what its lines are, or for want of memory
+-- `judge` ends by what its lines are, or for lack of memory
 pub judges_through : (k size : ℕ) (old new : About) (status : ℕ) (bytes : List ℕ) → Ran (Judges k size) RefusesLine old new status → old.left ≡ Some bytes → length bytes ≤ max_input
     → (Rose old.read_faults new.read_faults → ⊥) → (Rose old.write_faults new.write_faults → ⊥)
     → MatchResult (shares_of bytes) (λ shares. (status ≡ 0) ⊎ (status ≡ 9)) (λ number. (status ≡ 8) ⊎ (status ≡ 9))
 judges_through k size old new status bytes r told short no_read no_write =
     judged k size old new status bytes r told (runs_through (Judges k size) RefusesLine old new status bytes r told short no_read no_write) (shares_of bytes) refl
 
--- `settle` ends well, or for want of memory
+-- `settle` ends well, or for lack of memory
 pub settles_through : (secret : List ℕ) (cap : ℕ) (old new : About) (status : ℕ) (bytes : List ℕ) → Ran (IsSettleText secret cap) NoRefusal old new status → old.left ≡ Some bytes → length bytes ≤ max_input
     → (Rose old.read_faults new.read_faults → ⊥) → (Rose old.write_faults new.write_faults → ⊥)
     → (status ≡ 0) ⊎ (status ≡ 9)

@@ -108,7 +108,7 @@ pub record Ran (IsText IsRefusal : List ℕ → List ℕ → Type 0) (old new : 
   -- else a front of the text, then a front of the line, which is whole unless the write count rose
   pub front : Fronts IsText IsRefusal input old new status
   pub said : (status ≡ 0 → ⊥) → LastLine IsRefusal input old new status
-  -- the causes; that of 8 stands in its line, and want of memory, 9, has none
+  -- the causes; that of 8 stands in its line, and running out of memory, 9, has none
   pub write_fault : status ≡ 5 → Rose old.write_faults new.write_faults
   pub read_fault : status ≡ 11 → Rose old.read_faults new.read_faults
   pub long : status ≡ 12 → length input ≡ input_room

@@ -19,9 +19,9 @@ pub enum Status {
     LaneFault = 7,
     /// The command refused what it was given.
     Refused = 8,
-    /// Memory is wanting.
+    /// Memory runs out.
     NoMemory = 9,
-    /// Random words were wanting.
+    /// Random words ran out.
     WordsFault = 10,
     /// The console could not be read.
     InputFault = 11,

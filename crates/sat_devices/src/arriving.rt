@@ -54,8 +54,8 @@ impl Arriving {
         }
     }
 
-    /// Reads what has come.
-    pub(crate) fn take<R: Clock>(&mut self, rt: &R) -> Progress {
+    /// Reads what has come of a request, whose body may have so many bytes.
+    pub(crate) fn take<R: Clock>(&mut self, rt: &R, most: u64) -> Progress {
         let mut piece = [0u8; PIECE];
         for _ in 0..u64::MAX {
             let mut input = &self.stream;
@@ -72,7 +72,7 @@ impl Arriving {
             if self.request.extend_from_slice(&piece[..count]).is_err() {
                 return Progress::Lost;
             }
-            self.extent = extent_of(&self.request);
+            self.extent = extent_of(&self.request, most);
             if self.extent == Extent::Whole {
                 return Progress::Ready;
             }

@@ -2,6 +2,7 @@
 use crate::TcpLink;
 use crate::guests::Guests;
 use crate::luck::{Luck, luck_of};
+use crate::room::Room;
 use crate::time_limit::TimeLimit;
 use mio::event::Events;
 use mio::net::TcpListener;
@@ -42,7 +43,12 @@ pub(crate) struct Front<R: Clock + Copy> {
 
 impl<R: Clock + Copy + Net> Front<R> {
     /// A front of a port that is listened to.
-    pub(crate) fn new(rt: R, alloc: Global, listener: TcpListener) -> io::Result<Front<R>> {
+    pub(crate) fn new(
+        rt: R,
+        alloc: Global,
+        listener: TcpListener,
+        room: Room,
+    ) -> io::Result<Front<R>> {
         let poll = Poll::new(&rt)?;
         let mut listener = listener;
         poll.registry()
@@ -55,7 +61,7 @@ impl<R: Clock + Copy + Net> Front<R> {
             listener,
             poll,
             events,
-            guests: Guests::new(rt, alloc),
+            guests: Guests::new(rt, alloc, room),
             may_wait: true,
             sweep: TimeLimit::after(&rt, SWEEP),
         })

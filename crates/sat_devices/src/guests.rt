@@ -2,6 +2,7 @@
 use crate::TcpLink;
 use crate::arriving::{Arriving, Progress};
 use crate::leaving::Leaving;
+use crate::room::Room;
 use mio::net::TcpStream;
 use mio::{Interest, Registry, Token};
 use std::alloc::Global;
@@ -29,7 +30,10 @@ enum Guest {
 pub(crate) struct Guests<R: Clock + Copy> {
     rt: R,
     alloc: Global,
+    room: Room,
     places: Vec<Guest>,
+    // How many bytes they hold.
+    held: usize,
     // The places of those whose requests are ready, in their order.
     ready: VecDeque<usize>,
     // How many came.
@@ -38,11 +42,13 @@ pub(crate) struct Guests<R: Clock + Copy> {
 
 impl<R: Clock + Copy> Guests<R> {
     /// None.
-    pub(crate) fn new(rt: R, alloc: Global) -> Guests<R> {
+    pub(crate) fn new(rt: R, alloc: Global, room: Room) -> Guests<R> {
         Guests {
             rt,
             alloc,
+            room,
             places: Vec::new(alloc),
+            held: 0,
             ready: VecDeque::new(alloc),
             came: 0,
         }
@@ -50,10 +56,16 @@ impl<R: Clock + Copy> Guests<R> {
 
     // Puts a guest at a place, for the one who was there.
     fn put(&mut self, place: usize, guest: Guest) -> Guest {
-        match self.places.get_mut(place) {
+        let came = held_by(&guest);
+        let before = match self.places.get_mut(place) {
             Some(at) => mem::replace(at, guest),
-            None => Guest::Nobody,
-        }
+            None => return Guest::Nobody,
+        };
+        self.held = self
+            .held
+            .saturating_sub(held_by(&before))
+            .saturating_add(came);
+        before
     }
 
     /// Whether a request is ready.
@@ -72,7 +84,13 @@ impl<R: Clock + Copy> Guests<R> {
     pub(crate) fn hand_out(&mut self) -> Option<TcpLink<R>> {
         let place = self.ready.pop_front()?;
         match self.put(place, Guest::Away) {
-            Guest::Ready(guest) => Some(TcpLink::of(self.rt, self.alloc, place, guest)),
+            Guest::Ready(guest) => Some(TcpLink::of(
+                self.rt,
+                self.alloc,
+                place,
+                guest,
+                self.room.answer,
+            )),
             other => {
                 self.put(place, other);
                 None
@@ -139,13 +157,24 @@ impl<R: Clock + Copy> Guests<R> {
             Guest::Leaving(guest) => go_on(&self.rt, guest),
             other => other,
         };
-        self.put(place, next);
+        self.settle(place, next);
+    }
+
+    // Puts a guest back to its place. Where all hold too much then, those make room that came first and whose requests
+    // aren't whole.
+    fn settle(&mut self, place: usize, guest: Guest) {
+        self.put(place, guest);
+        for _ in 0..self.places.len() {
+            if self.held <= self.room.all || self.send_away().is_none() {
+                return;
+            }
+        }
     }
 
     // A connection after what has come of its request was read.
     fn looked(&mut self, place: usize, guest: Arriving) -> Guest {
         let mut guest = guest;
-        match guest.take(&self.rt) {
+        match guest.take(&self.rt, self.room.body) {
             Progress::Comes => Guest::Arriving(guest),
             Progress::Ready if self.ready.push_back(place).is_ok() => Guest::Ready(guest),
             Progress::Ready | Progress::Lost => Guest::Nobody,
@@ -156,7 +185,7 @@ impl<R: Clock + Copy> Guests<R> {
     pub(crate) fn back(&mut self, link: TcpLink<R>) {
         let (place, guest) = link.leaving();
         let next = go_on(&self.rt, guest);
-        self.put(place, next);
+        self.settle(place, next);
     }
 
     /// Looks for those whose time is up: one whose head is whole is ready, and the others are closed.
@@ -180,6 +209,15 @@ impl<R: Clock + Copy> Guests<R> {
             return Guest::Ready(guest);
         }
         Guest::Nobody
+    }
+}
+
+// How many bytes a guest holds.
+fn held_by(guest: &Guest) -> usize {
+    match guest {
+        Guest::Arriving(guest) | Guest::Ready(guest) => guest.request.len(),
+        Guest::Leaving(guest) => guest.held(),
+        Guest::Nobody | Guest::Away => 0,
     }
 }
 

@@ -41,6 +41,11 @@ impl Leaving {
         }
     }
 
+    /// How many bytes it holds.
+    pub(crate) fn held(&self) -> usize {
+        self.answer.len()
+    }
+
     /// Writes and reads what can be. Whether the connection is over.
     pub(crate) fn go_on<R: Clock>(&mut self, rt: &R) -> bool {
         if !self.is_told {

@@ -15,9 +15,9 @@
 //! A connection whose client is silent for ten seconds, or whose request takes more than thirty, is closed without an
 //! answer, but where its head is whole it is handed out, since that may decide it; one whose answer isn't taken within
 //! thirty is closed, too. Where its answer is written it is read on for up to
-//! two seconds, so that bytes which nobody read don't lose the answer. Where places, files or memory are wanting, the
-//! connection that came first of those whose requests aren't whole makes room. An error of the system ends a lane only
-//! where it says that the port takes no connection any more.
+//! two seconds, so that bytes which nobody read don't lose the answer. Where places, files or memory run out, or the
+//! lane's [`Room`] does, the connection that came first of those whose requests aren't whole makes room. An error of the
+//! system ends a lane only where it says that the port takes no connection any more.
 //!
 //! Not promised: what a terminal, a file or a client sends, that a call returns, how long it takes, that words are random,
 //! or that a failed call of the system is answered as failed. `trial_devices` tries these.
@@ -31,6 +31,7 @@ mod leaving;
 mod luck;
 mod machine_words;
 mod once;
+mod room;
 mod sleep_ticks;
 mod system_clock;
 mod tcp_lane;
@@ -41,6 +42,7 @@ mod whole;
 
 pub use console::Console;
 pub use machine_words::MachineWords;
+pub use room::Room;
 pub use sleep_ticks::SleepTicks;
 pub use system_clock::SystemClock;
 pub use tcp_lane::TcpLane;

@@ -15,7 +15,7 @@ const BROKEN: [i32; 5] = [
 // Those after which the next connection may be taken at once: EPERM, EINTR, EPROTO, ECONNABORTED.
 const PASSING: [i32; 4] = [1, 4, 71, 103];
 
-// Those by which files or memory are wanting: ENOMEM, ENFILE, EMFILE, ENOBUFS.
+// Those by which files or memory run out: ENOMEM, ENFILE, EMFILE, ENOBUFS.
 const SCARCE: [i32; 4] = [12, 23, 24, 105];
 
 /// Whether a port goes on after an error.
@@ -25,7 +25,7 @@ pub(crate) enum Luck {
     None,
     /// The error was of one connection, or of one call.
     Passing,
-    /// Files or memory are wanting, of which a connection that is closed gives some back.
+    /// Files or memory runs out, of which a connection that is closed gives some back.
     Scarce,
     /// It may go on later, as where the network is down.
     Later,

@@ -6,6 +6,7 @@ ghost use Rattle.sat_devices.specs.Waits.{AtPort, lane_about};
 
 use crate::TcpLink;
 use crate::front::Front;
+use crate::room::Room;
 use mio::net::TcpListener;
 use sat_base::{Came, Lane, Service};
 use std::io;
@@ -37,9 +38,17 @@ impl<R: Clock + Copy> Model for TcpLane<R> {
 }
 
 impl<R: Clock + Copy + Net + AllocGlobal> TcpLane<R> {
-    /// A lane at this port of 127.0.0.1, or at one that the system picks where it is 0. An error is the system's, as
-    /// where another program has the port.
+    /// A lane at this port of 127.0.0.1, or at one that the system picks where it is 0, for requests whose bodies have
+    /// fields ([`Room::for_fields`]). An error is the system's, as where another program has the port.
     pub fn listen(rt: R, port: u16) -> io::Result<TcpLane<R>>
+        ensures fresh { IfOk result (λ l. (l.given ≡ 0) × (l.over ≡ false) × (l.faults ≡ 0)) }
+        ensures port { IfOk result (λ l. 0 < port → l.port ≡ port) }
+    {
+        TcpLane::listen_with(rt, port, Room::for_fields())
+    }
+
+    /// A lane as [`TcpLane::listen`] gives it, with this room.
+    pub fn listen_with(rt: R, port: u16, room: Room) -> io::Result<TcpLane<R>>
         ensures fresh { IfOk result (λ l. (l.given ≡ 0) × (l.over ≡ false) × (l.faults ≡ 0)) }
         ensures port { IfOk result (λ l. 0 < port → l.port ≡ port) }
     {
@@ -51,7 +60,7 @@ impl<R: Clock + Copy + Net + AllocGlobal> TcpLane<R> {
             port
         };
         Ok(TcpLane {
-            front: Some(Front::new(rt, rt.alloc(), listener)?),
+            front: Some(Front::new(rt, rt.alloc(), listener, room)?),
             service: None,
             port: at,
             given: 0,

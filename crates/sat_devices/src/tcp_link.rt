@@ -13,15 +13,13 @@ use std::io::ErrorKind;
 use std::marker::Model;
 use std::time::Clock;
 
-// How many bytes of an answer are kept that its client doesn't take yet, and for how many seconds.
-const MOST: usize = 1_048_576;
-
+// For how many seconds an answer is kept that its client doesn't take yet.
 const WHOLE: u64 = 30;
 
 /// A connection over TCP whose request has come, for its answer. Contracts see its counts of faults.
 ///
-/// It waits for nothing: a read gives what has come, and a write keeps what the client doesn't take yet, up to 1 MiB, for
-/// its lane to write while it waits for the next one. A read behind a request that is decided fails, unless its client
+/// It waits for nothing: a read gives what has come, and a write keeps what the client doesn't take yet, as far as
+/// its lane has room, for the lane to write while it waits for the next one. A read behind a request that is decided fails, unless its client
 /// sends no more.
 #[derive(Drop)]
 pub struct TcpLink<R: Clock + Copy> {
@@ -32,6 +30,8 @@ pub struct TcpLink<R: Clock + Copy> {
     taken: usize,
     is_over: bool,
     answer: Vec<u8>,
+    // How many bytes of it are kept at most.
+    most: usize,
     read_faults: u64,
     write_faults: u64,
 }
@@ -43,8 +43,8 @@ impl<R: Clock + Copy> Model for TcpLink<R> {
 }
 
 impl<R: Clock + Copy> TcpLink<R> {
-    /// The connection of a place, which has met no fault.
-    pub(crate) fn of(rt: R, alloc: Global, place: usize, guest: Arriving) -> Self
+    /// The connection of a place, which has met no fault, with room for so many bytes of its answer.
+    pub(crate) fn of(rt: R, alloc: Global, place: usize, guest: Arriving, most: usize) -> Self
         ensures { result ≡ record { reads = 0; writes = 0 } }
     {
         let Arriving {
@@ -61,6 +61,7 @@ impl<R: Clock + Copy> TcpLink<R> {
             taken: 0,
             is_over,
             answer: Vec::new(alloc),
+            most,
             read_faults: 0,
             write_faults: 0,
         }
@@ -99,7 +100,7 @@ impl<R: Clock + Copy> TcpLink<R> {
                 Err(_) => return None,
             }
         }
-        if self.answer.len().saturating_add(piece.len()) > MOST {
+        if self.answer.len().saturating_add(piece.len()) > self.most {
             return None;
         }
         self.answer.extend_from_slice(piece).ok()?;

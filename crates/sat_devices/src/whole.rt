@@ -2,7 +2,7 @@
 ghost use Rattle.std.specs.Prelude.{All, length};
 ghost use Rattle.httparse.specs.Spans.{IsHeaderWithin};
 
-use http_edge::{MAX_BODY, MAX_HEAD, MAX_LINES, count_named, first_named};
+use http_parts::{MAX_HEAD, MAX_LINES, count_named, first_named};
 use httparse::Status;
 use httparse::spans::{EMPTY_HEADER_SPAN, HeaderSpan, parse_request};
 use sat_base::{is_numeral, value_up_to};
@@ -18,13 +18,13 @@ pub(crate) enum Extent {
     Whole,
 }
 
-/// How much of a request these first bytes of a connection are.
-pub(crate) fn extent_of(bytes: &[u8]) -> Extent {
+/// How much of a request these first bytes of a connection are, whose body may have so many bytes.
+pub(crate) fn extent_of(bytes: &[u8], most: u64) -> Extent {
     let mut headers = [EMPTY_HEADER_SPAN; MAX_LINES];
     match parse_request(bytes, &mut headers) {
         Ok(Status::Complete(spans)) => {
             let body = bytes.len().saturating_sub(spans.len);
-            if body >= body_len(bytes, &headers[..spans.headers]) {
+            if body >= body_len(bytes, &headers[..spans.headers], most) {
                 Extent::Whole
             } else {
                 Extent::Head
@@ -42,7 +42,7 @@ pub(crate) fn extent_of(bytes: &[u8]) -> Extent {
 }
 
 // How many bytes of a body a head tells of. Where it is refused for what it tells, none are read.
-fn body_len(bytes: &[u8], headers: &[HeaderSpan]) -> usize
+fn body_len(bytes: &[u8], headers: &[HeaderSpan], most: u64) -> usize
     requires { All (IsHeaderWithin (length bytes.now)) headers.now }
 {
     if count_named(bytes, headers, b"content-length") != 1 {
@@ -54,7 +54,7 @@ fn body_len(bytes: &[u8], headers: &[HeaderSpan]) -> usize
     if !is_numeral(length) {
         return 0;
     }
-    match value_up_to(length, MAX_BODY) {
+    match value_up_to(length, most) {
         Some(length) => length as usize,
         None => 0,
     }

@@ -5,7 +5,7 @@ use crate::driver::Driver;
 use crate::opening::PIECES;
 use crate::orders::{Presented, order_at, settle_call};
 use crate::uploads::LONGEST;
-use machine_calls::{Call, Reply};
+use machine_calls::{Call, Reply, Wish};
 use order_limits::Action;
 use rs_stripe::encode_pieces;
 use sat_base::{
@@ -36,13 +36,12 @@ impl Driver {
         let len = 1 + choice % LONGEST;
         let words = self.words.words(self.alloc, limits::WORDS)?;
         let request = self.next_request();
-        let reply = self.run.enter(Call::Begin {
-            now,
+        let wish = Wish::Begin {
             customer: CUSTOMER,
             request,
             len,
-            words,
-        })?;
+        };
+        let reply = self.run.enter(Call::Asked { now, words, wish })?;
         let Reply::Done(Done::Offer(offer)) = reply else {
             return Ok(());
         };
@@ -95,13 +94,13 @@ impl Driver {
     {
         let request = self.next_request();
         let indexes: Vec<u8> = (0..PIECES).collect(self.alloc)?;
-        let reply = self.run.enter(Call::Commit {
-            now,
+        let wish = Wish::Commit {
             customer: CUSTOMER,
             request,
             segment,
             indexes: Items::of(indexes),
-        })?;
+        };
+        let reply = self.run.enter(Call::of_wish(self.alloc, now, wish))?;
         match reply {
             Reply::Done(Done::Committed { .. }) => self.nodes.uploads.note(segment, bytes),
             _ => Ok(()),
@@ -118,12 +117,12 @@ impl Driver {
             return Ok(());
         };
         let request = self.next_request();
-        let reply = self.run.enter(Call::Get {
-            now,
+        let wish = Wish::Get {
             customer: CUSTOMER,
             request,
             segment,
-        })?;
+        };
+        let reply = self.run.enter(Call::of_wish(self.alloc, now, wish))?;
         let Reply::Done(Done::Offer(offer)) = reply else {
             return Ok(());
         };

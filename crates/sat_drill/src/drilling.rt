@@ -25,8 +25,8 @@ pub struct Drilled {
 /// Drives a machine through as many turns as `calls` says, each by the words of a generator that begins with `start`, over
 /// nodes in memory of which some alter what they keep. Then it closes the month, and tells what came of it.
 ///
-/// The history is lawful from the tables of the opening rows, and no step was lost to a fault of the store. The one error is
-/// want of memory. Which calls are made, and the number of wrong pieces, is for tests to see.
+/// The history is lawful from the tables of the opening rows, and no step was lost to a fault of the store. It fails
+/// only where memory runs out. Which calls are made, and the number of wrong pieces, is for tests to see.
 pub fn drill(alloc: Global, start: u64, calls: u64) -> Result<Drilled, NoMemory>
     requires { (1 ≤ calls) × (calls ≤ 20000) }
     ensures { IfOk result (λ d. IsDrilled d.opening.items d.history.items d.wrong d.text) }

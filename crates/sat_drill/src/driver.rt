@@ -7,7 +7,7 @@ use crate::opening::{FIRST_MOMENT, open_book};
 use crate::orders::Presented;
 use crate::run::Run;
 use crate::uploads::Uploads;
-use machine_calls::Call;
+use machine_calls::{Call, Task, Wish};
 use node_rounds::{Upkeep, words_of};
 use sat_base::{Moment, Month, NoMemory};
 use std::alloc::Global;
@@ -62,16 +62,17 @@ impl Driver {
         let now = Moment::of(FIRST_MOMENT);
         for before in 0..NODES {
             let id = before + 1;
-            self.run.enter(Call::AddNode {
-                now,
+            let wish = Wish::AddNode {
                 request: u64::from(id),
                 addr: u32::from_be_bytes([10, 0, id, 1]),
                 port: 7000 + u16::from(id),
                 free: FREE,
-            })?;
+            };
+            self.run.enter(Call::of_wish(self.alloc, now, wish))?;
         }
         let request = u64::from(NODES) + 1;
-        self.run.enter(Call::AddCustomer { now, request })?;
+        let wish = Wish::AddCustomer { request };
+        self.run.enter(Call::of_wish(self.alloc, now, wish))?;
         Ok(())
     }
 
@@ -100,7 +101,8 @@ impl Driver {
         ensures { OnOk result (length self.new.run.history ≡ length self.old.run.history + 1) }
     {
         let now = Moment::of(END);
-        self.run.enter(Call::CloseMonth { now, month: MONTH })?;
+        let wish = Wish::CloseMonth { month: MONTH };
+        self.run.enter(Call::of_wish(self.alloc, now, wish))?;
         Ok(())
     }
 
@@ -120,7 +122,10 @@ impl Driver {
         requires room { length self.old.run.history < 65536 }
         ensures { OnOk result (length self.new.run.history ≡ length self.old.run.history + 1) }
     {
-        self.run.enter(Call::TallyHour { now })?;
+        self.run.enter(Call::Own {
+            now,
+            task: Task::TallyHour,
+        })?;
         Ok(())
     }
 }

@@ -32,7 +32,7 @@ impl Generator {
         z ^ (z >> 31)
     }
 
-    /// The next words, so many. The one error is want of memory.
+    /// The next words, so many. It fails only where memory runs out.
     pub fn words(&mut self, alloc: Global, number: usize) -> Result<Words64, NoMemory>
         ensures { IfOk result (λ words. length words ≡ number) }
     {
@@ -43,7 +43,7 @@ impl Generator {
         Ok(Items::of(words))
     }
 
-    /// Bytes, each the low one of a word. The one error is want of memory.
+    /// Bytes, each the low one of a word. It fails only where memory runs out.
     pub fn bytes(&mut self, alloc: Global, number: usize) -> Result<Vec<u8>, NoMemory>
         ensures { IfOk result (λ bytes. vec_len bytes ≡ number) }
     {

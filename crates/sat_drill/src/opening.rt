@@ -38,7 +38,7 @@ fn setup() -> Setup {
     }
 }
 
-/// Makes the store of a drill in a keeper in memory, and opens a book over it. The one error is want of memory.
+/// Makes the store of a drill in a keeper in memory, and opens a book over it. It fails only where memory runs out.
 pub(crate) fn open_book(alloc: Global) -> Result<Book<Steady>, NoMemory>
     ensures empty { IfOk result (λ book. book.history ≡ []) }
     ensures room { IfOk result (λ book. 65536 ≤ book.room) }

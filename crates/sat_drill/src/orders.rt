@@ -3,7 +3,7 @@ ghost use Rattle.std.specs.Prelude.{◌^◌, ◌<◌, IfOk};
 ghost use Rattle.machine_step.specs.Step.{IsWellFormed};
 ghost use Rattle.machine_step.specs.Tables.{Tables};
 
-use machine_calls::{Call, are_bytes};
+use machine_calls::{Call, Wish, are_bytes};
 use order_limits::{Action, Grant, Keys, Order};
 use sat_base::{At, Items, Moment, NoMemory, NodeId, Offer, Place};
 use std::alloc::Global;
@@ -40,7 +40,7 @@ pub(crate) fn order_at(keys: &Keys, action: Action, offer: &Offer, place: &Place
     }
 }
 
-/// The call by which a node presents its order. The one error is want of memory.
+/// The call by which a node presents its order. It fails only where memory runs out.
 pub(crate) fn settle_call(
     alloc: Global,
     now: Moment,
@@ -50,9 +50,9 @@ pub(crate) fn settle_call(
     ensures { (t : Tables) → IfOk result (IsWellFormed t) }
 {
     are_bytes(&presented.order);
-    Ok(Call::Settle {
-        now,
+    let wish = Wish::Settle {
         node: presented.node,
         bytes: Items::of(Vec::from_slice(alloc, &presented.order)?),
-    })
+    };
+    Ok(Call::of_wish(alloc, now, wish))
 }

@@ -9,7 +9,7 @@ ghost use Rattle.sat_drill.specs.Run.{IsClosed, Replies};
 use crate::steady::Steady;
 use bw_decode::Scratch;
 use machine_calls::{Call, Reply};
-use node_rounds::{Store, Upkeep, ask, end_call, is_plan_of, plan_call};
+use node_rounds::{RoundStore, Upkeep, ask, end_call, is_plan_of, plan_call};
 use sat_base::{Bytes, Moment, NoMemory, Nodes, Row, Words64};
 use sat_book::{Book, Entry};
 use std::alloc::Global;
@@ -21,7 +21,7 @@ use tally_payout::sheet;
 pub(crate) struct Run {
     alloc: Global,
     book: Book<Steady>,
-    store: Store,
+    store: RoundStore,
     scratch: Scratch,
 }
 
@@ -46,7 +46,7 @@ pub(crate) struct Closed {
 }
 
 impl Run {
-    /// The machine of a book that has no entries, and room for a whole term. The one error is want of memory.
+    /// The machine of a book that has no entries, and room for a whole term. It fails only where memory runs out.
     pub fn of(alloc: Global, book: Book<Steady>) -> Result<Run, NoMemory>
         requires empty { book.history ≡ [] }
         requires room { 65536 ≤ book.room }
@@ -54,7 +54,7 @@ impl Run {
     {
         // the tables are those that it was opened with
         let _core = book.core();
-        let store = Store::of(&book);
+        let store = RoundStore::of(&book);
         let scratch = Scratch::new(alloc, &store.scheme)?;
         Ok(Run {
             alloc,
@@ -65,11 +65,11 @@ impl Run {
     }
 
     /// The keys and the scheme of its store.
-    pub fn store(&self) -> &Store {
+    pub fn store(&self) -> &RoundStore {
         &self.store
     }
 
-    /// Enters a call. The one error is want of memory, also where that is what the machine answers.
+    /// Enters a call. It fails only where memory runs out, also where that is what the machine answers.
     pub fn enter(&mut self, call: Call) -> Result<Reply, NoMemory>
         requires room { length self.old.history < 65536 }
         requires formed { IsWellFormed (start_of self.old.opening) call }
@@ -85,7 +85,7 @@ impl Run {
     }
 
     /// Enters a plan of this kind, with as many words as it takes. Where it is planned the nodes are asked, and its end is
-    /// entered. The one error is want of memory.
+    /// entered. It fails only where memory runs out.
     pub fn keep_up<N: Nodes>(
         &mut self,
         nodes: &mut N,
@@ -117,7 +117,7 @@ impl Run {
         sheet(self.alloc, month, statements.as_slice())
     }
 
-    /// Makes the sheet of the first month, and closes the book. The one error is want of memory.
+    /// Makes the sheet of the first month, and closes the book. It fails only where memory runs out.
     pub fn close(self) -> Result<Closed, NoMemory>
         ensures closed { IfOk result (λ c. IsClosed c.opening.items c.history.items c.sheet) }
         ensures history { IfOk result (λ c. c.history.items ≡ self.history) }

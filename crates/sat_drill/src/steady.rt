@@ -6,7 +6,7 @@ use sat_base::{Change, Committed, Keeper, KeeperMem, Loaded};
 use std::alloc::Global;
 use std::marker::Model;
 
-/// A keeper of rows in memory, which never fails but for want of memory.
+/// A keeper of rows in memory, which never fails but for lack of memory.
 #[derive(Drop)]
 pub(crate) struct Steady {
     keeper: KeeperMem,

@@ -47,7 +47,7 @@ fn push_counts(
     Ok(())
 }
 
-/// The lines of what a history comes to, and behind them a sheet. The one error is want of memory.
+/// The lines of what a history comes to, and behind them a sheet. It fails only where memory runs out.
 pub(crate) fn text_of(
     alloc: Global,
     history: &[Entry],

@@ -35,7 +35,7 @@ impl Uploads {
         }
     }
 
-    /// Notes a segment, whose id is above those of all before it, with its bytes. The one error is want of memory.
+    /// Notes a segment, whose id is above those of all before it, with its bytes. It fails only where memory runs out.
     pub fn note(&mut self, segment: SegId, bytes: Vec<u8>) -> Result<(), NoMemory>
         requires { vec_len bytes ≤ 4096 }
     {
@@ -53,7 +53,7 @@ impl Uploads {
     }
 
     /// Counts a piece that is put, where it isn't the piece of the bytes that were uploaded. One of another segment isn't
-    /// counted. The one error is want of memory.
+    /// counted. It fails only where memory runs out.
     pub fn compare(&mut self, alloc: Global, ask: &Ask, piece: &[u8]) -> Result<(), NoMemory> {
         let Ok(place) = self
             .all

@@ -24,6 +24,6 @@ pub enum InitErr {
     NotEmpty,
     /// A draw of a random word failed.
     WordsFault,
-    /// Memory is wanting.
+    /// Memory runs out.
     NoMemory,
 }

@@ -3,6 +3,7 @@ use Rattle.std.proofs.Common.{◌≡◌, ℕ, suc, ◌+◌, ◌≤◌, Bool, tru
 use Rattle.std.specs.Prelude.{map}
 use Rattle.std.specs.List.{list_all}
 use Rattle.std.proofs.lemmas.Bool.Decides.{nat_tests}
+use Rattle.std.proofs.lemmas.Bool.{and_parts, and_from}
 use Rattle.sat_base.specs.declared.ids.NodeId.{NodeId}
 use Rattle.sat_base.specs.declared.records.Containment.{Containment}
 use Rattle.sat_base.specs.declared.records.Key.TheVariants as keys
@@ -18,7 +19,6 @@ use Rattle.machine_step.specs.Outcome.{Outcome, unchanged}
 use Rattle.machine_step.specs.Rules.{first_bad, breaks_node}
 use Rattle.machine_step.specs.Tables.{Tables, all_changed}
 use Rattle.machine_step.proofs.GrowthLemmas.{ids_above}
-use Rattle.machine_step.proofs.RowLemmas.{both, and_of}
 use Rattle.sat_machine.proofs.StayLemmas.{CanTake, Stays}
 use Rattle.machine_store.specs.Store.{IsNodePlaceable, IsPlaceable, ArePlaceable, is_lost, spares, are_orderly}
 
@@ -52,7 +52,7 @@ spares-tame c d h = refl
 
 pub tame-all : (c : RecChange) (cs : List RecChange) → is_tame c ≡ true → list_all (spares c) cs ≡ true
 tame-all c [] h = refl
-tame-all c (d ∷ cs) h = and_of _ _ (spares-tame c d h) (tame-all c cs h)
+tame-all c (d ∷ cs) h = and_from _ _ (spares-tame c d h) (tame-all c cs h)
 
 -- a change that can be placed, and leaves room
 abbrev pub IsEasy : Tables → RecChange → Type 0
@@ -64,7 +64,7 @@ easy-placeable t (x ∷ xs) ys each placeable = (each.0.0, easy-placeable t xs y
 
 pub easy-orderly : (t : Tables) (xs ys : List RecChange) → Each (IsEasy t) xs → are_orderly ys ≡ true → are_orderly (xs ++ ys) ≡ true
 easy-orderly t [] ys each orderly = orderly
-easy-orderly t (x ∷ xs) ys each orderly = and_of _ _ (tame-all x (xs ++ ys) each.0.1) (easy-orderly t xs ys each.1 orderly)
+easy-orderly t (x ∷ xs) ys each orderly = and_from _ _ (tame-all x (xs ++ ys) each.0.1) (easy-orderly t xs ys each.1 orderly)
 
 pub each-append : {X : Type 0} (P : X → Type 0) (xs ys : List X) → Each P xs → Each P ys → Each P (xs ++ ys)
 each-append P [] ys fx fy = fy
@@ -124,18 +124,18 @@ spares-release c row = refl
 
 spares-releases : (c : RecChange) (rows : List Containment) → list_all (spares c) (map release rows) ≡ true
 spares-releases c [] = refl
-spares-releases c (row ∷ rows) = and_of _ _ (spares-release c row) (spares-releases c rows)
+spares-releases c (row ∷ rows) = and_from _ _ (spares-release c row) (spares-releases c rows)
 
 all-append : (test : RecChange → Bool) (xs ys : List RecChange) → list_all test xs ≡ true → list_all test ys ≡ true → list_all test (xs ++ ys) ≡ true
 all-append test [] ys fx fy = fy
-all-append test (x ∷ xs) ys fx fy = let parts = both (test x) (list_all test xs) fx in and_of _ _ parts.0 (all-append test xs ys parts.1 fy)
+all-append test (x ∷ xs) ys fx fy = let parts = and_parts (test x) (list_all test xs) fx in and_from _ _ parts.0 (all-append test xs ys parts.1 fy)
 
 orderly-releases : (cs : List RecChange) (rows : List Containment) → are_orderly cs ≡ true → are_orderly (cs ++ map release rows) ≡ true
 orderly-releases [] [] orderly = refl
-orderly-releases [] (row ∷ rows) orderly = and_of _ _ (spares-releases (release row) rows) (orderly-releases [] rows refl)
+orderly-releases [] (row ∷ rows) orderly = and_from _ _ (spares-releases (release row) rows) (orderly-releases [] rows refl)
 orderly-releases (c ∷ cs) rows orderly =
-    let parts = both (list_all (spares c) cs) (are_orderly cs) orderly in
-    and_of _ _ (all-append (spares c) cs (map release rows) parts.0 (spares-releases c rows)) (orderly-releases cs rows parts.1)
+    let parts = and_parts (list_all (spares c) cs) (are_orderly cs) orderly in
+    and_from _ _ (all-append (spares c) cs (map release rows) parts.0 (spares-releases c rows)) (orderly-releases cs rows parts.1)
 
 placeable-releases : (t : Tables) (cs : List RecChange) (rows : List Containment) → ArePlaceable t cs → ArePlaceable t (cs ++ map release rows)
 placeable-releases t [] [] placeable = tt

@@ -4,5 +4,5 @@ pub mod PlanDoables
 pub mod MonthDoables
 pub mod StepLemmas
 pub mod SweepLemmas
-pub mod FootingLemmas
+pub mod SweptLemmas
 pub mod SheetLemmas

@@ -1,8 +1,9 @@
 -- What tallies, closes and rates change can be placed, and no change takes another's room.
-use Rattle.std.proofs.Common.{◌≡◌, ℕ, ◌+◌, ◌*◌, ◌/◌, ◌<◌, ◌≤◌, ◌^◌, Bool, true, false, not, List, [], ◌∷◌, ◌++◌, length, Option, Some, None, refl, sym, ap, subst, ◌∙◌, arith}
+use Rattle.std.proofs.Common.{◌≡◌, ℕ, ◌+◌, ◌/◌, ◌<◌, ◌≤◌, ◌^◌, Bool, true, false, not, List, [], ◌∷◌, ◌++◌, length, None, refl, arith}
 use Rattle.std.specs.Prelude.{if◌then◌else◌, nat_le, nat_lt, ◌==◌, map}
 use Rattle.std.specs.List.{list_all}
 use Rattle.std.proofs.lemmas.Bool.Decides.{nat_tests}
+use Rattle.std.proofs.lemmas.Bool.{and_from}
 use Rattle.sat_base.specs.declared.ids.NodeId.{NodeId}
 use Rattle.sat_base.specs.declared.limits.TheConstants as limits
 use Rattle.sat_base.specs.declared.month.Month.{Month}
@@ -20,7 +21,6 @@ use Rattle.month_pay.specs.Rule.{is_sound_statement}
 use Rattle.month_pay.proofs.Closing.{old-below}
 use Rattle.month_pay.proofs.ListFacts.{each-all}
 use Rattle.month_pay.proofs.MonthFacts.{hour_month}
-use Rattle.machine_calls.specs.declared.change.RecChange.{RecChange}
 use Rattle.machine_calls.specs.declared.change.RecChange.TheVariants as changes
 use Rattle.machine_calls.specs.declared.refusal.Refusal.TheVariants as refusals
 use Rattle.machine_calls.specs.declared.refusal.TableName.TheVariants as names
@@ -39,7 +39,6 @@ use Rattle.machine_step.proofs.HourRows.{nodes_are, hour_of}
 use Rattle.machine_step.proofs.MarkLemmas.{month-open, month-first}
 use Rattle.machine_step.proofs.Outcomes.{unless-P, with_record-P, if_found-P, if-P}
 use Rattle.machine_step.proofs.Paid.{statements_of}
-use Rattle.machine_step.proofs.RowLemmas.{and_of}
 use Rattle.machine_step.proofs.StoredMost.{stored-most}
 use Rattle.machine_store.specs.Store.{IsOpenIn, IsTallyPlaceable, IsStatementPlaceable, ArePlaceable, spares, are_orderly}
 use Rattle.sat_machine.proofs.Doable.{IsDoable, still, tame-all}
@@ -97,11 +96,11 @@ module _ (t : Tables) (v : IsValid t) where
 
   spared-statements : (s : Statement) (rows : List Statement) → AllAbove statement_rank (statement_rank s) rows → list_all (spares (changes.Statement s)) (map changes.Statement rows) ≡ true
   spared-statements s [] above = refl
-  spared-statements s (row ∷ rows) above = let first = above.0 in and_of _ _ (grind (arith, nat_tests, first)) (spared-statements s rows above.1)
+  spared-statements s (row ∷ rows) above = let first = above.0 in and_from _ _ (grind (arith, nat_tests, first)) (spared-statements s rows above.1)
 
   statements-orderly : (rows : List Statement) → IsRising statement_rank rows → are_orderly (map changes.Statement rows) ≡ true
   statements-orderly [] rising = refl
-  statements-orderly (s ∷ rows) rising = and_of _ _ (spared-statements s rows rising.0) (statements-orderly rows rising.1)
+  statements-orderly (s ∷ rows) rising = and_from _ _ (spared-statements s rows rising.0) (statements-orderly rows rising.1)
 
   -- ---- tallies
 
@@ -111,11 +110,11 @@ module _ (t : Tables) (v : IsValid t) where
 
   spared-tallies : (tally : Tally) (rows : List Tally) → AllAbove tally_rank (tally_rank tally) rows → list_all (spares (changes.Tally tally)) (map changes.Tally rows) ≡ true
   spared-tallies tally [] above = refl
-  spared-tallies tally (row ∷ rows) above = let first = above.0 in and_of _ _ (grind (arith, nat_tests, first)) (spared-tallies tally rows above.1)
+  spared-tallies tally (row ∷ rows) above = let first = above.0 in and_from _ _ (grind (arith, nat_tests, first)) (spared-tallies tally rows above.1)
 
   tallies-orderly : (rows : List Tally) → IsRising tally_rank rows → are_orderly (map changes.Tally rows) ≡ true
   tallies-orderly [] rising = refl
-  tallies-orderly (row ∷ rows) rising = and_of _ _ (spared-tallies row rows rising.0) (tallies-orderly rows rising.1)
+  tallies-orderly (row ∷ rows) rising = and_from _ _ (spared-tallies row rows rising.0) (tallies-orderly rows rising.1)
 
   module _ (time : ℕ) (le : t.marks.time ≤ time) (lt : time < 2 ^ 36) where
     able : (nodes : List Node) → AllAbove node_rank 0 nodes → Each (λ tally. Each (λ row. tally_rank row < tally_rank tally) t.tallies) (hour_of t v (time / 3600) nodes)
@@ -150,7 +149,7 @@ module _ (t : Tables) (v : IsValid t) where
         let rows = hour_rows t hour in
         record {
           placeable = (tt, tallies-placeable rows (able t.nodes (nodes_are t v).some (all-below tally_rank t.tallies rows rises)));
-          orderly = and_of _ _ (tame-all (changes.Marks (record t.marks { time = time; hour = record { 0 = hour + 1 } })) (map changes.Tally rows) refl) (tallies-orderly rows (rising-right tally_rank t.tallies rows rises));
+          orderly = and_from _ _ (tame-all (changes.Marks (record t.marks { time = time; hour = record { 0 = hour + 1 } })) (map changes.Tally rows) refl) (tallies-orderly rows (rising-right tally_rank t.tallies rows rises));
         }
 
     pub doable_tally_hour : IsDoable t (tally_hour t time)
@@ -166,7 +165,7 @@ module _ (t : Tables) (v : IsValid t) where
         let rows = month_rows (ledger_of t) t.marks.month.0 in
         record {
           placeable = (tt, statements-placeable rows (all-below statement_rank t.statements rows rises));
-          orderly = and_of _ _ (tame-all (changes.Marks (record t.marks { time = time; month = record { 0 = t.marks.month.0 + 1 } })) (map changes.Statement rows) refl) (statements-orderly rows (rising-right statement_rank t.statements rows rises));
+          orderly = and_from _ _ (tame-all (changes.Marks (record t.marks { time = time; month = record { 0 = t.marks.month.0 + 1 } })) (map changes.Statement rows) refl) (statements-orderly rows (rising-right statement_rank t.statements rows rises));
         }
 
     pub doable_close_month : (month : Month) → IsDoable t (close_month t time month)

@@ -2,6 +2,7 @@
 use Rattle.std.proofs.Common.{◌≡◌, ℕ, Bool, true, false, List, [], ◌∷◌, length, drop, find, min, append-nil, Option, Some, None, refl, subst, ap, sym, ◌∙◌}
 use Rattle.std.specs.List.{list_all}
 use Rattle.std.specs.Prelude.{◌==◌, ◌^◌, ◌<◌, ◌+◌, ◌-◌, ◌/◌, ◌%◌, not, map, filter, if◌then◌else◌, option_to_list, slice_index}
+use Rattle.std.proofs.lemmas.Bool.{and_from}
 use Rattle.sat_base.specs.declared.ids.NodeId.{NodeId}
 use Rattle.sat_base.specs.declared.records.At.{At}
 use Rattle.sat_base.specs.declared.records.Containment.{Containment}
@@ -12,7 +13,6 @@ use Rattle.node_registry.specs.declared.node.Node.{Node}
 use Rattle.node_registry.specs.Standing.{is_counted}
 use Rattle.sat_base.specs.declared.settings.Marks.{Marks}
 use Rattle.machine_calls.specs.declared.reply.Reply.{Reply}
-use Rattle.machine_step.proofs.RowLemmas.{and_of}
 use Rattle.node_registry.specs.declared.node.Status.{Status}
 use Rattle.node_registry.specs.declared.node.Status.TheVariants.{Active, Disqualified, Exiting, Exited}
 use Rattle.node_registry.specs.declared.reputation.Outcome.{Outcome as Mark}
@@ -39,7 +39,7 @@ use Rattle.machine_step.specs.Containment.{release}
 use Rattle.machine_step.specs.Health.{after_outcome, first_of, healthy_of, live_segments, picked}
 use Rattle.machine_step.specs.Outcome.{Outcome}
 use Rattle.machine_step.specs.Plans.{has_no_plan, is_open, open_number, same_audit, same_recheck, same_repair, superseded, timed, version_of}
-use Rattle.machine_step.specs.Mending.{plan_of, failed, repair_ended, unrepaired, mending_of, end_mending_at, end_mending}
+use Rattle.machine_step.specs.Mending.{plan_of, failed, unrepaired, mending_of, end_mending_at, end_mending}
 use Rattle.machine_step.specs.Places.{picks_of}
 use Rattle.machine_step.specs.Tables.{Tables, segment_at}
 use Rattle.machine_step.specs.Calls.PlanAudit.{audit_of, audit_planned, audit_numbered, plan_audit}
@@ -168,7 +168,7 @@ module _ (t : Tables) (v : IsValid t) (time : ℕ) where
       let orderly = ap are_orderly (sym (append-nil nodes)) ∙ easy-orderly t nodes [] easy refl in
       record {
         placeable = (tt, (tt, (short, placeable)));
-        orderly = easy-orderly t (changes.Marks marks ∷ changes.Remove (keys.Plan kind) ∷ []) (changes.Segment segment ∷ nodes) ((tt, refl), ((tt, refl), tt)) (and_of _ _ (spares_nodes segment ns) orderly);
+        orderly = easy-orderly t (changes.Marks marks ∷ changes.Remove (keys.Plan kind) ∷ []) (changes.Segment segment ∷ nodes) ((tt, refl), ((tt, refl), tt)) (and_from _ _ (spares_nodes segment ns) orderly);
       }
 
   doable_mending : (kind : ℕ) (outcome : RepairOutcome) (found : SegmentRecord) → found.len < 2 ^ 40 → IsDoable t (mending_of t time kind outcome found)

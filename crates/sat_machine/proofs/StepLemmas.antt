@@ -1,6 +1,6 @@
 -- What each step changes can be placed, and no change takes another's room.
-use Rattle.std.proofs.Common.{◌≡◌, ℕ, ◌<◌, ◌≤◌, ◌^◌, Bool, true, false, List, length, Option, Some, None, IfSome, IsSomeAnd, Result, Ok, Err, refl, sym, ap, subst, ◌∙◌, arith}
-use Rattle.std.specs.Prelude.{if◌then◌else◌, nat_le, nat_lt, not, ◌==◌}
+use Rattle.std.proofs.Common.{◌≡◌, ℕ, ◌<◌, ◌≤◌, ◌^◌, true, false, List, length, Option, Some, None, IfSome, IsSomeAnd, Result, Ok, Err, refl, sym, ap, subst, ◌∙◌, arith}
+use Rattle.std.specs.Prelude.{nat_le, nat_lt, not, ◌==◌}
 use Rattle.std.proofs.lemmas.Bool.Decides.{nat_tests}
 use Rattle.sat_base.specs.declared.ids.NodeId.{NodeId}
 use Rattle.sat_base.specs.declared.requests.Asked.TheVariants as asks
@@ -19,6 +19,8 @@ use Rattle.placement.specs.Eligible.{subnet_count}
 use Rattle.machine_calls.specs.declared.asking.Asking.{Asking}
 use Rattle.machine_calls.specs.declared.call.Call.{Call}
 use Rattle.machine_calls.specs.declared.call.Call.TheVariants as calls
+use Rattle.machine_calls.specs.declared.task.Task.TheVariants as tasks
+use Rattle.machine_calls.specs.declared.wish.Wish.TheVariants as wishes
 use Rattle.machine_calls.specs.declared.reply.Reply.TheVariants as replies
 use Rattle.machine_calls.specs.declared.refusal.Refusal.TheVariants as refusals
 use Rattle.machine_calls.specs.declared.refusal.TableName.TheVariants as names
@@ -40,7 +42,7 @@ use Rattle.machine_step.specs.Bounds.{IsValid}
 use Rattle.machine_step.proofs.Outcomes.{unless-P, with_record-P, if-P, of_caller-P, of_customer-P, unless_caused-P}
 use Rattle.machine_step.proofs.RowLemmas.{found_rank, capped-length}
 use Rattle.machine_step.proofs.SettleLemmas.{settles-new}
-use Rattle.machine_step.proofs.StepLemmas.{valid_step}
+use Rattle.machine_step.proofs.StepLemmas.{valid_step, risen_within}
 use Rattle.sat_machine.proofs.Doable.{IsDoable, still, node-placeable, none-next, doable-swept}
 use Rattle.order_limits.proofs.Fields.{IsBytes}
 use Rattle.machine_step.proofs.Fits.{owned_found}
@@ -140,36 +142,29 @@ module _ (t : Tables) (v : IsValid t) where
       if-P (IsDoable t) (still t) (found.free == free) (unchanged replies.FreeSet) (free_set t time found free) (still t replies.FreeSet)
       (record { placeable = (tt, (node-placeable t v (record found { free = free }) found here (λ lost. same_status found here lost), tt)); orderly = refl }))
 
-risen_within : (t : Tables) (v : IsValid t) (now : ℕ) → now < 2 ^ 36 → risen t now < 2 ^ 36
-risen_within t v now lt = omega (arith, v.bounds.marks.time)
-
 doable_case : (t : Tables) (call : Call) → IsValid t → IsWellFormed t call → IsDoable t (case_of t call)
-doable_case t (calls.AddNode now request addr port free) v w = doable_add_node t v (asking t operator request now) addr port free
-doable_case t (calls.AddCustomer now request) v w = doable_add_customer t v (asking t operator request now)
-doable_case t (calls.Begin now customer request len words) v w = doable_begin t v (asking t customer request now) len words
-doable_case t (calls.Commit now customer request segment indexes) v w = doable_commit t v (asking t customer request now) segment indexes
-doable_case t (calls.Get now customer request segment) v w = doable_get t v (asking t customer request now) segment
-doable_case t (calls.Delete now customer request segment) v w = doable_delete t v (asking t customer request now) segment
-doable_case t (calls.Settle now node bytes) v w = doable_settle t v (risen t now) node bytes (omega arith) w.formed.bytes
-doable_case t (calls.SetFree now node free) v w = doable_set_free t v (risen t now) node free
-doable_case t (calls.PlanAudit now words) v w = doable_plan_audit t v (risen t now) words
-doable_case t (calls.EndAudit now judged) v w = doable_end_audit t v (risen t now) judged
-doable_case t (calls.PlanRecheck now) v w = doable_plan_recheck t v (risen t now)
-doable_case t (calls.EndRecheck now plan checked) v w = doable_end_recheck t v (risen t now) plan checked
-doable_case t (calls.PlanRepair now words) v w = doable_plan_repair t v (risen t now) words
-doable_case t (calls.TallyHour now) v w = doable_tally_hour t v (risen t now) (omega arith) (risen_within t v now w.formed.timely)
-doable_case t (calls.CloseMonth now month) v w = doable_close_month t v (risen t now) (omega arith) (risen_within t v now w.formed.timely) month
-doable_case t (calls.SetRates now month rates) v w = doable_set_rates t v (risen t now) month rates
-doable_case t (calls.Statement node month) v w = doable_statement t v node month
-doable_case t (calls.EndRepair now outcome) v w = doable_end_repair t v (risen t now) outcome
-doable_case t (calls.Exit now node) v w = doable_exit t v (risen t now) node
-doable_case t (calls.PlanExit now words) v w = doable_plan_exit t v (risen t now) words
-doable_case t (calls.EndExit now outcome) v w = doable_end_exit t v (risen t now) outcome
-doable_case t calls.Stop v w = record { placeable = tt; orderly = refl }
-
--- where the machine isn't stopped, the step is the case of the call, and what it releases
-pub step-running : (t : Tables) (call : Call) → t.stopped ≡ false → step t call ≡ swept t (case_of t call)
-step-running t call running = ap (λ (b : Bool). if b then refused refusals.Stopped else swept t (case_of t call)) running
+doable_case t (calls.Asked now words (wishes.AddNode request addr port free)) v w = doable_add_node t v (asking t operator request now) addr port free
+doable_case t (calls.Asked now words (wishes.AddCustomer request)) v w = doable_add_customer t v (asking t operator request now)
+doable_case t (calls.Asked now words (wishes.Begin customer request len)) v w = doable_begin t v (asking t customer request now) len words
+doable_case t (calls.Asked now words (wishes.Commit customer request segment indexes)) v w = doable_commit t v (asking t customer request now) segment indexes
+doable_case t (calls.Asked now words (wishes.Get customer request segment)) v w = doable_get t v (asking t customer request now) segment
+doable_case t (calls.Asked now words (wishes.Delete customer request segment)) v w = doable_delete t v (asking t customer request now) segment
+doable_case t (calls.Asked now words (wishes.Settle node bytes)) v w = doable_settle t v (risen t now) node bytes (omega arith) w.formed.bytes
+doable_case t (calls.Asked now words (wishes.SetFree node free)) v w = doable_set_free t v (risen t now) node free
+doable_case t (calls.Own now (tasks.PlanAudit words)) v w = doable_plan_audit t v (risen t now) words
+doable_case t (calls.Own now (tasks.EndAudit judged)) v w = doable_end_audit t v (risen t now) judged
+doable_case t (calls.Own now tasks.PlanRecheck) v w = doable_plan_recheck t v (risen t now)
+doable_case t (calls.Own now (tasks.EndRecheck plan checked)) v w = doable_end_recheck t v (risen t now) plan checked
+doable_case t (calls.Own now (tasks.PlanRepair words)) v w = doable_plan_repair t v (risen t now) words
+doable_case t (calls.Own now tasks.TallyHour) v w = doable_tally_hour t v (risen t now) (omega arith) (risen_within t v now w.formed.timely)
+doable_case t (calls.Asked now words (wishes.CloseMonth month)) v w = doable_close_month t v (risen t now) (omega arith) (risen_within t v now w.formed.timely) month
+doable_case t (calls.Asked now words (wishes.SetRates month rates)) v w = doable_set_rates t v (risen t now) month rates
+doable_case t (calls.Asked now words (wishes.Statement node month)) v w = doable_statement t v node month
+doable_case t (calls.Own now (tasks.EndRepair outcome)) v w = doable_end_repair t v (risen t now) outcome
+doable_case t (calls.Asked now words (wishes.Exit node)) v w = doable_exit t v (risen t now) node
+doable_case t (calls.Own now (tasks.PlanExit words)) v w = doable_plan_exit t v (risen t now) words
+doable_case t (calls.Own now (tasks.EndExit outcome)) v w = doable_end_exit t v (risen t now) outcome
+doable_case t (calls.Asked now words wishes.Stop) v w = record { placeable = tt; orderly = refl }
 
 doable_step : (t : Tables) (call : Call) → IsValid t → IsWellFormed t call → IsDoable t (step t call)
 doable_step t call v w =

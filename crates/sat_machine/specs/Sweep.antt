@@ -23,7 +23,7 @@ is_some_live (Some segment) = is_live segment
 abbrev pub lives : List SegmentRecord → SegId → Bool
 lives segments id = is_some_live (segment_at segments id.0)
 
--- a change may leave a containment without a footing: a node that doesn't serve, a segment that was live before the step, or another containment
+-- a change may leave a containment without a node that serves or without its piece: a node that doesn't serve, a segment that was live before the step, or another containment
 abbrev pub unsettles : List SegmentRecord → RecChange → Bool
 unsettles segments (changes.Node node) = not (is_serving node.status)
 unsettles segments (changes.Segment segment) = lives segments segment.id

@@ -10,7 +10,7 @@
 //! - The tables of every machine at every moment keep every rule ([`Core::marks`]).
 //!
 //! Contracts see the tables, and the call whose step is prepared. What comes of a call is worked out by
-//! `machine_requests` and `machine_upkeep`; behind its changes the containments fall that it leaves without a footing.
+//! `machine_requests` and `machine_upkeep`; behind its changes the containments fall that it leaves without a node that serves or without their piece.
 //!
 //! Not promised: that memory is found, or that a step is written anywhere. The records that [`Core::new`] is given
 //! have to be in order and within bounds.

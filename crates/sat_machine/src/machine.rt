@@ -55,20 +55,10 @@ fn case_of(alloc: Global, store: &Store, call: &Call) -> Result<Prepared, NoMemo
     ensures { IfOk result (λ p. Holds p (case_of (tables_of store.now) call.now)) }
 {
     match call {
-        Call::AddNode { .. }
-        | Call::AddCustomer { .. }
-        | Call::Begin { .. }
-        | Call::Commit { .. }
-        | Call::Get { .. }
-        | Call::Delete { .. }
-        | Call::Settle { .. }
-        | Call::SetFree { .. }
-        | Call::Statement { .. }
-        | Call::CloseMonth { .. }
-        | Call::SetRates { .. }
-        | Call::Exit { .. }
-        | Call::Stop => request_case(alloc, store, call),
-        _ => upkeep_case(alloc, store, call),
+        Call::Asked { now, words, wish } => {
+            request_case(alloc, store, *now, words.as_slice(), wish)
+        }
+        Call::Own { now, task } => upkeep_case(alloc, store, *now, task),
     }
 }
 
@@ -120,7 +110,7 @@ impl Core {
     }
 
     /// Works out the reply and the changes of a call's step, and makes all the room that finishing it takes. The
-    /// tables don't show it. A call is well formed if its moment is one, and a `Begin` has 128 words.
+    /// tables don't show it. A call is well formed if its moment is one, and it has as many words as it takes.
     pub fn prepare(&mut self, call: &Call) -> Result<Prepared, NoMemory>
         requires free { self.old.pending ≡ None }
         requires formed { IsWellFormed self.old.tables call.now }
@@ -171,7 +161,7 @@ impl Core {
     }
 
     /// The statements of a month, in the order of their nodes: none of a month that isn't closed. They are such that a
-    /// sheet can be made of them. Its error is want of memory.
+    /// sheet can be made of them. It fails only where memory runs out.
     pub fn statements(&self, month: Month) -> Result<Vec<Statement>, NoMemory>
         ensures rows { IfOk result (λ rows. rows.items ≡ filter (λ s. s.month.0 == month.0) self.now.tables.statements) }
         ensures few { IfOk result (λ rows. length rows.items ≤ 65536) }

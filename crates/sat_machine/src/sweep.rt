@@ -1,4 +1,4 @@
-// The containments that a step leaves without a footing.
+// The containments that a step leaves without a node that serves or without their piece.
 ghost use Rattle.std.specs.Prelude.{◌≡◌, IfOk, OnOk, option_copied};
 ghost use Rattle.std.specs.List.{list_any};
 ghost use Rattle.node_registry.specs.Registry.{node_at};
@@ -28,7 +28,7 @@ fn lives(store: &Store, id: SegId) -> bool
     }
 }
 
-// Whether a change may leave a containment without a footing.
+// Whether a change may leave a containment without a node that serves or without its piece.
 fn unsettles(store: &Store, change: &RecChange) -> bool
     ensures { result ≡ unsettles (tables_of store.now).segments change.now }
 {
@@ -169,7 +169,7 @@ fn release(row: &Containment) -> RecChange
     RecChange::Remove(Key::Containment(row.node))
 }
 
-// A step, and behind its changes the removal of the containments that they leave without a footing. Most steps change
+// A step, and behind its changes the removal of the containments that they leave without a node that serves or without their piece. Most steps change
 // nothing that a containment stands on, and so pass over none of them.
 pub(crate) fn sweep(alloc: Global, store: &Store, prepared: Prepared) -> Result<Prepared, NoMemory>
     requires { IsValid (tables_of store.now) }

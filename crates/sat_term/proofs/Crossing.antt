@@ -7,10 +7,10 @@ use Rattle.std.specs.contracts.impls.GlobalAllocator.TheImpl.{ghosts}
 use Rattle.std.specs.contracts.vec.Vec as Vec
 use Rattle.order_limits.proofs.keys.Keys.TheSendSync as keys
 use Rattle.order_limits.specs.contracts.keys.Keys as Keys
-use Rattle.sat_rounds.proofs.lanes.Post.TheSendSync as post
-use Rattle.sat_rounds.specs.contracts.lanes.Post as Post
-use Rattle.sat_term.proofs.crew.Sheet.TheSendSync as sheet
-use Rattle.sat_term.specs.contracts.crew.Sheet as Sheet
+use Rattle.sat_sessions.proofs.lanes.Post.TheSendSync as post
+use Rattle.sat_sessions.specs.contracts.lanes.Post as Post
+use Rattle.sat_term.proofs.term.TermLog.TheSendSync as log
+use Rattle.sat_term.specs.contracts.term.TermLog as TermLog
 use Rattle.machine_calls.proofs.call.Call.TheSendSync as call
 use Rattle.machine_calls.proofs.reply.Reply.TheSendSync as reply
 use Rattle.machine_calls.specs.contracts.call.Call as Call
@@ -48,5 +48,5 @@ keys_sync = keys.the_sync
 pub posts_send : (L T W : RattleType) → IsSend L → IsSend T → IsSend W → IsSend (Vec.the_row (Post.the_row L T W) Heap.the_row ghosts)
 posts_send L T W l t w = Vec-send (Post.the_row L T W) (post.the_send L T W l t w)
 
-pub sheet_send : IsSend Sheet.the_row
-sheet_send = sheet.the_send
+pub sheet_send : IsSend TermLog.the_row
+sheet_send = log.the_send

@@ -4,15 +4,15 @@ use Rattle.turnstile.specs.Known.{SameRights, own_entries}
 use Rattle.desk_runs.specs.Gathered.{Keeps}
 use Rattle.desk_runs.specs.Runs.{Lasts}
 use Rattle.desk_runs.proofs.Doing.{done_kept, runs_done}
-use Rattle.sat_rounds.specs.Lanes.{PostView, LaneRan, LaneTells, session_places, session_full}
-use Rattle.sat_rounds.specs.Rounds.{KitView, RoundTells, RoundsRan, round_places, round_full}
-use Rattle.sat_rounds.specs.Sessions.{V}
-use Rattle.sat_rounds.specs.declared.lanes.LaneEnd.{LaneEnd}
-use Rattle.sat_rounds.specs.declared.rounds.Round.{Round}
-use Rattle.sat_rounds.specs.declared.rounds.RoundsEnd.{RoundsEnd}
-use Rattle.sat_rounds.specs.declared.told.Session.{Session}
-use Rattle.sat_rounds.proofs.LaneLemmas.{closes_later, lane_lasts}
-use Rattle.sat_term.specs.Crew.{Every, KitRow, LaneHolds, LaneRow, RoundHolds, Telling}
+use Rattle.sat_sessions.specs.Lanes.{PostView, LaneRan, LaneTells, session_places, session_full}
+use Rattle.sat_sessions.specs.Rounds.{KitView, RoundTells, RoundsRan, round_places, round_full}
+use Rattle.sat_sessions.specs.Sessions.{V}
+use Rattle.sat_sessions.specs.declared.lanes.LaneEnd.{LaneEnd}
+use Rattle.sat_sessions.specs.declared.rounds.Round.{Round}
+use Rattle.sat_sessions.specs.declared.rounds.RoundsEnd.{RoundsEnd}
+use Rattle.sat_sessions.specs.declared.told.Session.{Session}
+use Rattle.sat_sessions.proofs.LaneLemmas.{closes_later, lane_lasts}
+use Rattle.sat_term.specs.Workers.{Every, KitRow, LaneHolds, LaneRow, RoundHolds, Telling}
 use Rattle.sat_term.proofs.Rows.{every_map}
 
 pub lane_holds : {K : Type 0} (secret : List ℕ) (term : ℕ) (k : V K) (s : PostView) (xs : List Session) (end : LaneEnd) (s' : PostView) (k' : V K) (n : ℕ) → k.numbers ≡ n ∷ [] → own_entries k ≡ [] → LaneRan secret term s k xs end s' k'

@@ -5,16 +5,17 @@ use Rattle.sat_base.specs.Outside.{About, CountsExactly, Rose, counted, raised, 
 use Rattle.turnstile.specs.History.{own}
 use Rattle.desk_runs.specs.Runs.{Acts, some_is}
 use Rattle.sat_book.specs.Legal.{E}
-use Rattle.sat_rounds.specs.Draws.{Draws, Gives}
-use Rattle.sat_rounds.specs.Lanes.{PostView, AreNumbered, Closes, LaneTells, is_term_full, session_full, session_places, told_of}
-use Rattle.sat_rounds.specs.Sessions.{V, is_words_fault}
-use Rattle.sat_rounds.specs.declared.lanes.LaneEnd.{LaneEnd}
-use Rattle.sat_rounds.specs.declared.lanes.LaneEnd.TheVariants as causes
-use Rattle.sat_rounds.specs.declared.told.Session.{Session}
-use Rattle.sat_rounds.proofs.Ending.{words_counted}
-use Rattle.sat_term.specs.Crew.{LaneHolds, LaneRow}
+use Rattle.sat_sessions.specs.Draws.{Draws, Gives}
+use Rattle.sat_sessions.specs.Lanes.{PostView, AreNumbered, Closes, LaneTells, is_term_full, session_full, session_places, told_of}
+use Rattle.sat_sessions.specs.Sessions.{V, is_words_fault}
+use Rattle.sat_sessions.specs.declared.lanes.LaneEnd.{LaneEnd}
+use Rattle.sat_sessions.specs.declared.lanes.LaneEnd.TheVariants as causes
+use Rattle.sat_sessions.specs.declared.told.Session.{Session}
+use Rattle.sat_sessions.proofs.Ending.{words_counted}
+use Rattle.sat_term.specs.Workers.{LaneHolds, LaneRow}
 use Rattle.sat_term.specs.Term.{LaneCause, LaneClauses, LinksGrew, count_of, ends_by_words, is_failed}
-use Rattle.sat_rounds.proofs.Among.{draws_nothing, draws_then}
+use Rattle.sat_sessions.proofs.Among.{draws_nothing, draws_then}
+use Rattle.sat_base.proofs.Fetches.{counts_up}
 
 pub one_more : (a b c n : ℕ) → b ≡ raised a → (c < 2 ^ 64 - 1 → c ≡ b + n) → c < 2 ^ 64 - 1 → c ≡ a + (n + 1)
 one_more a b c n up rest low = let r : c ≡ b + n = rest low in omega arith
@@ -22,10 +23,6 @@ one_more a b c n up rest low = let r : c ≡ b + n = rest low in omega arith
 counts_one : (b : Bool) (old new : ℕ) → CountsExactly b old new → new < 2 ^ 64 - 1 → old + cond b 1 0 ≤ new
 counts_one true old new c low = let a = c.0 in let d = c.1 in omega arith
 counts_one false old new c low = omega (arith, c)
-
-counts_up : (b : Bool) (old new : ℕ) → CountsExactly b old new → old ≤ new
-counts_up true old new c = c.0
-counts_up false old new c = omega (arith, c)
 
 module _ (secret : List ℕ) (term : ℕ) (h : List E) where
   abbrev Did : PostView → List Session → List E → PostView → Type 0

@@ -5,15 +5,15 @@ use Rattle.sat_base.specs.Ticks.{TicksView}
 use Rattle.turnstile.specs.History.{own}
 use Rattle.desk_runs.specs.Runs.{Acts, some_is}
 use Rattle.sat_book.specs.Legal.{E}
-use Rattle.sat_rounds.specs.Draws.{Draws, Gives}
-use Rattle.sat_rounds.specs.Rounds.{KitView, RoundTells, RoundsClose, is_by_round, round_ends, round_places, told_of_kit}
-use Rattle.sat_rounds.specs.Sessions.{V}
-use Rattle.sat_rounds.specs.declared.rounds.Round.{Round}
-use Rattle.sat_rounds.specs.declared.rounds.RoundsEnd.{RoundsEnd}
-use Rattle.sat_rounds.specs.declared.rounds.RoundsEnd.TheVariants as causes
-use Rattle.sat_term.specs.Crew.{KitRow, RoundHolds, Telling}
+use Rattle.sat_sessions.specs.Draws.{Draws, Gives}
+use Rattle.sat_sessions.specs.Rounds.{KitView, RoundTells, RoundsClose, is_by_round, round_ends, round_places, told_of_kit}
+use Rattle.sat_sessions.specs.Sessions.{V}
+use Rattle.sat_sessions.specs.declared.rounds.Round.{Round}
+use Rattle.sat_sessions.specs.declared.rounds.RoundsEnd.{RoundsEnd}
+use Rattle.sat_sessions.specs.declared.rounds.RoundsEnd.TheVariants as causes
+use Rattle.sat_term.specs.Workers.{KitRow, RoundHolds, Telling}
 use Rattle.sat_term.specs.Term.{AreTold, RoundCause, RoundClauses}
-use Rattle.sat_rounds.proofs.Among.{draws_nothing, draws_then}
+use Rattle.sat_sessions.proofs.Among.{draws_nothing, draws_then}
 use Rattle.sat_term.proofs.LaneLaws.{one_more}
 
 module _ {N : Type 0} (Tells : Telling N) (h : List E) where

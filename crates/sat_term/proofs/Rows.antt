@@ -4,10 +4,10 @@ use Rattle.std.proofs.Math.Pow.{pow_mono}
 use Rattle.std.proofs.Math.Nat.{pow-suc}
 use Rattle.std.proofs.Math.Numerals.{add-one}
 use mathlib.Core.List.{map-append}
-use Rattle.sat_rounds.specs.Lanes.{PostView}
-use Rattle.sat_rounds.specs.declared.lanes.LaneEnd.{LaneEnd}
-use Rattle.sat_rounds.specs.declared.told.Session.{Session}
-use Rattle.sat_term.specs.Crew.{AreRows, Every, LaneRow}
+use Rattle.sat_sessions.specs.Lanes.{PostView}
+use Rattle.sat_sessions.specs.declared.lanes.LaneEnd.{LaneEnd}
+use Rattle.sat_sessions.specs.declared.told.Session.{Session}
+use Rattle.sat_term.specs.Workers.{AreRows, Every, LaneRow}
 
 pub every_map : {X : Type 0} (P Q : X → Type 0) → ((x : X) → P x → Q x) → (xs : List X) → Every P xs → Every Q xs
 every_map P Q f [] e = tt

@@ -9,21 +9,22 @@ use Rattle.desk_runs.specs.Runs.{some_is}
 use Rattle.sat_book.specs.Book.{start_of}
 use Rattle.sat_book.specs.Legal.{E, IsHistory}
 use Rattle.sat_book.specs.declared.opening.Opening.{Opening}
-use Rattle.sat_rounds.specs.Draws.{Gives, IsAmong, as_moment, moments_of, words_of}
-use Rattle.sat_rounds.specs.Lanes.{PostView, AreNumbered, IsLast, is_term_full, session_places, session_full}
-use Rattle.sat_rounds.specs.Listening.{Told}
-use Rattle.sat_rounds.specs.Rounds.{KitView, ends_rounds, is_by_round, round_ends, round_places, round_full}
-use Rattle.sat_rounds.specs.Serves.{StopsAt}
-use Rattle.sat_rounds.specs.Sessions.{Connects, is_full, is_words_fault}
-use Rattle.sat_rounds.specs.declared.lanes.LaneEnd.{LaneEnd}
-use Rattle.sat_rounds.specs.declared.lanes.LaneEnd.TheVariants as causes
-use Rattle.sat_rounds.specs.declared.rounds.Round.{Round}
-use Rattle.sat_rounds.specs.declared.rounds.RoundsEnd.{RoundsEnd}
-use Rattle.sat_rounds.specs.declared.rounds.RoundsEnd.TheVariants as round_causes
-use Rattle.sat_rounds.specs.declared.told.Session.{Session}
-use Rattle.sat_term.specs.Crew.{LaneRow, KitRow, KitsView, AreRows, Every, Telling}
-use Rattle.sat_term.specs.declared.crew.Ends.{Ends}
-use Rattle.sat_term.specs.declared.crew.Term.{Term}
+use Rattle.sat_sessions.specs.Draws.{Gives, IsAmong, as_moment, moments_of, words_of}
+use Rattle.sat_sessions.specs.Lanes.{PostView, AreNumbered, IsLast, is_term_full, session_places, session_full}
+use Rattle.sat_sessions.specs.Listening.{Told}
+use Rattle.sat_sessions.specs.Rounds.{KitView, ends_rounds, is_by_round, round_ends, round_places, round_full}
+use Rattle.sat_sessions.specs.Serves.{StopsAt}
+use Rattle.sat_sessions.specs.Sessions.{Connects, is_full, is_words_fault}
+use Rattle.sat_sessions.specs.declared.lanes.TheConstants as bounds
+use Rattle.sat_sessions.specs.declared.lanes.LaneEnd.{LaneEnd}
+use Rattle.sat_sessions.specs.declared.lanes.LaneEnd.TheVariants as causes
+use Rattle.sat_sessions.specs.declared.rounds.Round.{Round}
+use Rattle.sat_sessions.specs.declared.rounds.RoundsEnd.{RoundsEnd}
+use Rattle.sat_sessions.specs.declared.rounds.RoundsEnd.TheVariants as round_causes
+use Rattle.sat_sessions.specs.declared.told.Session.{Session}
+use Rattle.sat_term.specs.Workers.{LaneRow, KitRow, KitsView, AreRows, Every, Telling}
+use Rattle.sat_term.specs.declared.term.Ends.{Ends}
+use Rattle.sat_term.specs.declared.term.Term.{Term}
 
 -- Which worker made which entry: passes has one number per worker, places what its sessions or rounds name.
 pub record WholeTerm (term : ℕ) (opening : Opening) (history : List E) (passes : List ℕ) (places : List (List ℕ)) (full : Bool) : Type 0 where
@@ -50,7 +51,7 @@ LaneCause causes.Over xs history before after = after.over ≡ true
 LaneCause causes.Failed xs history before after = Rose before.faults after.faults
 LaneCause causes.Stopped xs history before after = IsLast xs (λ x. StopsAt x.end history)
 LaneCause causes.TermFull xs history before after = IsLast xs (λ x. is_full x.end ≡ true)
-LaneCause causes.Many xs history before after = length xs ≡ 65536
+LaneCause causes.Many xs history before after = length xs ≡ bounds.SESSIONS
 LaneCause causes.NoMemory xs history before after = Unit {0}
 
 -- each session with its connection as it came and as it was given back, at some moment and with some words

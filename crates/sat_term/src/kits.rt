@@ -1,12 +1,12 @@
 // The kits, each in a thread of its own.
 ghost use Rattle.std.specs.Prelude.{◌≡◌, IsSome};
 ghost use Rattle.sat_book.specs.Book.{opening_of};
-ghost use Rattle.sat_rounds.specs.Rounds.{RoundsRan};
+ghost use Rattle.sat_sessions.specs.Rounds.{RoundsRan};
 
-use crate::crew::{Kits, KitsWorked};
+use crate::term::{Kits, KitsWorked};
 use sat_base::{Gate, Keeper};
 use sat_book::Book;
-use sat_rounds::{BookPass, RoundKit, RoundsWorked};
+use sat_sessions::{BookPass, RoundKit, RoundsWorked};
 use std::alloc::Global;
 use std::sync::Wait;
 use std::thread::{Threads, join};

@@ -1,14 +1,14 @@
 // The lanes, each in a thread of its own.
 ghost use Rattle.std.specs.Prelude.{◌≡◌, ◌^◌, ◌≤◌, length, map, vec_capacity, IsSome};
 ghost use Rattle.std.specs.Thread.{IsSync, IsSend};
-ghost use Rattle.sat_rounds.specs.Lanes.{LaneRan, post_view};
-ghost use Rattle.sat_term.specs.Crew.{IsBlank, IsFilled, LanesDone};
+ghost use Rattle.sat_sessions.specs.Lanes.{LaneRan, post_view};
+ghost use Rattle.sat_term.specs.Workers.{IsBlank, IsFilled, LanesDone};
 
-use crate::crew::{LanesWorked, Sheet};
+use crate::term::{LanesWorked, TermLog};
 use order_limits::Keys;
 use sat_base::{Clock, Gate, Keeper, Lane, Words};
 use sat_book::Book;
-use sat_rounds::{BookPass, LaneWorked, Post, lane_worker};
+use sat_sessions::{BookPass, LaneWorked, Post, lane_worker};
 use std::alloc::Global;
 use std::sync::Wait;
 use std::thread::{Threads, join};
@@ -30,22 +30,22 @@ pub(crate) fn work_lanes<
     keys: &Keys,
     posts: Vec<Post<L, T, W>>,
     gate: &G,
-    sheet: Sheet,
+    log: TermLog,
 ) -> LanesWorked<K, L, T, W>
     requires desk { pass.desk ≡ desk.now }
     requires base { IsSome pass.base }
     requires spare { 2 ^ length posts.items ≤ pass.spare }
     requires few { length posts.items ≤ 16 }
-    requires sheet { IsBlank (length posts.items) sheet }
-    ensures filled { IsFilled (length posts.items) sheet result.sheet }
+    requires log { IsBlank (length posts.items) log }
+    ensures filled { IsFilled (length posts.items) log result.log }
     ensures room { (length result.posts.items ≡ length posts.items) × (vec_capacity result.posts ≡ vec_capacity posts) }
     ensures done { LanesDone keys.now desk.now.term pass (map (post_view L.about T.coming W.left W.faults) posts.items) result.pass
-        (map (post_view L.about T.coming W.left W.faults) result.posts.items) result.sheet }
+        (map (post_view L.about T.coming W.left W.faults) result.posts.items) result.log }
 {
     let mut posts = posts;
     let post = match posts.pop() {
         Some(post) => post,
-        None => return LanesWorked { pass, posts, sheet },
+        None => return LanesWorked { pass, posts, log },
     };
     let lane = posts.len() as u16;
     let (mine, other) = desk.split(pass);
@@ -53,11 +53,11 @@ pub(crate) fn work_lanes<
     let (done, worked) = join(
         rt,
         move || -> LanesWorked<K, L, T, W>
-            requires { IsSync R.row × IsSend K.row × IsSend L.row × IsSend L.Conn.row × IsSend T.row × IsSend W.row × IsSync G.row × (mine.desk ≡ desk.now) × IsSome mine.base × (2 ^ length posts.items ≤ mine.spare) × (length posts.items ≤ 16) × IsBlank (length posts.items) sheet }
-            ensures filled { IsFilled (length posts.items) sheet result.sheet }
+            requires { IsSync R.row × IsSend K.row × IsSend L.row × IsSend L.Conn.row × IsSend T.row × IsSend W.row × IsSync G.row × (mine.desk ≡ desk.now) × IsSome mine.base × (2 ^ length posts.items ≤ mine.spare) × (length posts.items ≤ 16) × IsBlank (length posts.items) log }
+            ensures filled { IsFilled (length posts.items) log result.log }
             ensures room { (length result.posts.items ≡ length posts.items) × (vec_capacity result.posts ≡ vec_capacity posts) }
-            ensures done { LanesDone keys.entry.now desk.entry.now.term mine (map (post_view L.about T.coming W.left W.faults) posts.items) result.pass (map (post_view L.about T.coming W.left W.faults) result.posts.items) result.sheet }
-        { work_lanes(rt, alloc, desk, mine, keys, posts, gate, sheet) },
+            ensures done { LanesDone keys.entry.now desk.entry.now.term mine (map (post_view L.about T.coming W.left W.faults) posts.items) result.pass (map (post_view L.about T.coming W.left W.faults) result.posts.items) result.log }
+        { work_lanes(rt, alloc, desk, mine, keys, posts, gate, log) },
         move || -> LaneWorked<K, L, T, W>
             requires { (other.desk ≡ desk.now) × IsSome other.base }
             ensures { LaneRan keys.entry.now desk.entry.now.term (post_view L.about T.coming W.left W.faults post) other result.sessions.items result.end (post_view L.about T.coming W.left W.faults result.post) result.pass }
@@ -66,7 +66,7 @@ pub(crate) fn work_lanes<
     let LanesWorked {
         pass,
         mut posts,
-        sheet,
+        log,
     } = done;
     let LaneWorked {
         pass: other,
@@ -74,11 +74,11 @@ pub(crate) fn work_lanes<
         sessions,
         end,
     } = worked;
-    let Sheet {
+    let TermLog {
         mut numbers,
         mut lanes,
         mut ends,
-    } = sheet;
+    } = log;
     let pass = desk.join(pass, other);
     posts.push_reserved(post);
     numbers.push_reserved(number);
@@ -87,7 +87,7 @@ pub(crate) fn work_lanes<
     LanesWorked {
         pass,
         posts,
-        sheet: Sheet {
+        log: TermLog {
             numbers,
             lanes,
             ends,

@@ -1,17 +1,17 @@
 // All workers at once.
 ghost use Rattle.std.specs.Prelude.{◌≡◌, ◌+◌, ◌^◌, ◌≤◌, length, map, vec_capacity, IsSome};
 ghost use Rattle.sat_book.specs.Book.{opening_of};
-ghost use Rattle.sat_rounds.specs.Lanes.{post_view};
-ghost use Rattle.sat_rounds.specs.Rounds.{RoundsRan};
-ghost use Rattle.sat_term.specs.Crew.{AllDone, IsBlank, IsFilled, LanesDone, Parted, kits_view};
+ghost use Rattle.sat_sessions.specs.Lanes.{post_view};
+ghost use Rattle.sat_sessions.specs.Rounds.{RoundsRan};
+ghost use Rattle.sat_term.specs.Workers.{AllDone, IsBlank, IsFilled, LanesDone, Parted, kits_view};
 
-use crate::crew::{Crew, Kits, KitsWorked, LanesWorked, Sheet, Worked};
 use crate::kits::work_kits;
 use crate::lanes::work_lanes;
+use crate::term::{Kits, KitsWorked, LanesWorked, TermLog, Worked, Workers};
 use order_limits::Keys;
 use sat_base::{Clock, Gate, Keeper, Lane, Words};
 use sat_book::Book;
-use sat_rounds::{BookPass, Post, RoundKit, RoundsWorked};
+use sat_sessions::{BookPass, Post, RoundKit, RoundsWorked};
 use std::alloc::Global;
 use std::sync::Wait;
 use std::thread::{Threads, join};
@@ -75,17 +75,17 @@ fn work_posts<
     keys: &Keys,
     posts: Vec<Post<L, T, W>>,
     gate: &G,
-    sheet: Sheet,
+    log: TermLog,
 ) -> LanesWorked<K, L, T, W>
     requires desk { (pass.desk ≡ desk.now) × IsSome pass.base }
     requires spare { 2 ^ 16 ≤ pass.spare }
     requires few { length posts.items ≤ 16 }
-    requires sheet { IsBlank (length posts.items) sheet }
-    ensures filled { IsFilled (length posts.items) sheet result.sheet }
+    requires log { IsBlank (length posts.items) log }
+    ensures filled { IsFilled (length posts.items) log result.log }
     ensures done { LanesDone keys.now desk.now.term pass (map (post_view L.about T.coming W.left W.faults) posts.items) result.pass
-        (map (post_view L.about T.coming W.left W.faults) result.posts.items) result.sheet }
+        (map (post_view L.about T.coming W.left W.faults) result.posts.items) result.log }
 {
-    work_lanes(rt, alloc, desk, pass, keys, posts, gate, sheet)
+    work_lanes(rt, alloc, desk, pass, keys, posts, gate, log)
 }
 
 // Works all posts and kits at once. Where no thread is to be had the lanes are worked, and then the kits.
@@ -105,22 +105,22 @@ pub(crate) fn work_all<
     desk: &Desk<Book<K>>,
     pass: BookPass<K>,
     keys: &Keys,
-    crew: Crew<L, T, W, A, B, C>,
+    workers: Workers<L, T, W, A, B, C>,
     gate: &G,
-    sheet: Sheet,
+    log: TermLog,
 ) -> Worked<K, L, T, W, A, B, C>
     requires desk { pass.desk ≡ desk.now }
     requires base { IsSome pass.base }
     requires spare { 2 ^ 19 ≤ pass.spare }
-    requires few { length crew.posts.items ≤ 16 }
-    requires sheet { IsBlank (length crew.posts.items) sheet }
-    requires room { length crew.posts.items + 3 ≤ vec_capacity sheet.numbers }
-    requires audit_fits { A.fits (opening_of pass.base) crew.kits.audit }
-    requires repair_fits { B.fits (opening_of pass.base) crew.kits.repair }
-    requires tally_fits { C.fits (opening_of pass.base) crew.kits.tally }
+    requires few { length workers.posts.items ≤ 16 }
+    requires log { IsBlank (length workers.posts.items) log }
+    requires room { length workers.posts.items + 3 ≤ vec_capacity log.numbers }
+    requires audit_fits { A.fits (opening_of pass.base) workers.kits.audit }
+    requires repair_fits { B.fits (opening_of pass.base) workers.kits.repair }
+    requires tally_fits { C.fits (opening_of pass.base) workers.kits.tally }
     ensures { AllDone (A.tells (opening_of pass.base)) (B.tells (opening_of pass.base)) (C.tells (opening_of pass.base)) keys.now desk.now.term pass
-        (map (post_view L.about T.coming W.left W.faults) crew.posts.items) (kits_view A.view B.view C.view crew.kits) result.pass
-        (map (post_view L.about T.coming W.left W.faults) result.crew.posts.items) (kits_view A.view B.view C.view result.crew.kits) result.sheet (record {
+        (map (post_view L.about T.coming W.left W.faults) workers.posts.items) (kits_view A.view B.view C.view workers.kits) result.pass
+        (map (post_view L.about T.coming W.left W.faults) result.workers.posts.items) (kits_view A.view B.view C.view result.workers.kits) result.log (record {
           audits = result.audits.items;
           repairs = result.repairs.items;
           tallies = result.tallies.items;
@@ -129,7 +129,7 @@ pub(crate) fn work_all<
           tally_end = result.tally_end;
         }) }
 {
-    let Crew { posts, kits } = crew;
+    let Workers { posts, kits } = workers;
     let Parts {
         lanes: pass,
         audit: for_audit,
@@ -154,22 +154,22 @@ pub(crate) fn work_all<
             )
         },
         move || -> LanesWorked<K, L, T, W>
-            requires { ((pass.desk ≡ desk.now) × IsSome pass.base) × (2 ^ 16 ≤ pass.spare) × (length posts.items ≤ 16) × IsBlank (length posts.items) sheet }
-            ensures filled { IsFilled (length posts.items) sheet result.sheet }
-            ensures done { LanesDone keys.entry.now desk.entry.now.term pass (map (post_view L.about T.coming W.left W.faults) posts.items) result.pass (map (post_view L.about T.coming W.left W.faults) result.posts.items) result.sheet }
-        { work_posts(rt, alloc, desk, pass, keys, posts, gate, sheet) },
+            requires { ((pass.desk ≡ desk.now) × IsSome pass.base) × (2 ^ 16 ≤ pass.spare) × (length posts.items ≤ 16) × IsBlank (length posts.items) log }
+            ensures filled { IsFilled (length posts.items) log result.log }
+            ensures done { LanesDone keys.entry.now desk.entry.now.term pass (map (post_view L.about T.coming W.left W.faults) posts.items) result.pass (map (post_view L.about T.coming W.left W.faults) result.posts.items) result.log }
+        { work_posts(rt, alloc, desk, pass, keys, posts, gate, log) },
     );
-    let LanesWorked { pass, posts, sheet } = lanes;
+    let LanesWorked { pass, posts, log } = lanes;
     let KitsWorked {
         audit,
         repair,
         tally,
     } = worked;
-    let Sheet {
+    let TermLog {
         mut numbers,
         lanes,
         ends,
-    } = sheet;
+    } = log;
     let RoundsWorked {
         pass: from_audit,
         kit: audit,
@@ -196,7 +196,7 @@ pub(crate) fn work_all<
     numbers.push_reserved(tally_number);
     Worked {
         pass: all,
-        crew: Crew {
+        workers: Workers {
             posts,
             kits: Kits {
                 audit,
@@ -204,7 +204,7 @@ pub(crate) fn work_all<
                 tally,
             },
         },
-        sheet: Sheet {
+        log: TermLog {
             numbers,
             lanes,
             ends,

@@ -30,7 +30,7 @@ pub struct Network<N> {
 
 /// What serves: the lanes, the seconds between two ticks, the storage nodes, and what tells when all of it is over.
 #[derive(Drop)]
-pub struct Crew<N> {
+pub struct Serving<N> {
     pub posts: Lanes,
     pub tick: u32,
     pub network: Network<N>,
@@ -101,16 +101,16 @@ pub fn devices<C: Link, K: Drop, N: Drop>(
     rt: HostRuntime,
     console: C,
     keeper: K,
-    crew: Crew<N>,
+    serving: Serving<N>,
 ) -> Result<Devices<C, K, N>, NoMemory>
-    ensures { IfOk result (λ world. world.posts ≡ crew.posts) }
+    ensures { IfOk result (λ world. world.posts ≡ serving.posts) }
 {
-    let Crew {
+    let Serving {
         posts,
         tick,
         network,
         service,
-    } = crew;
+    } = serving;
     let (for_audit, for_repair) = (service.share()?, service.share()?);
     let Network {
         audit,

@@ -12,7 +12,7 @@ mod devices;
 mod store;
 mod usage;
 
-use devices::{Crew, Network, bound, devices};
+use devices::{Network, Serving, bound, devices};
 use gather::TokioNodes;
 use sat_base::{KeeperMem, Line, NoMemory, Nodes, Service};
 use sat_devices::Console;
@@ -34,7 +34,7 @@ const START: u8 = 20;
 pub enum StartErr {
     /// A port can't be bound, or the store's file can't be opened or isn't a store.
     Start,
-    /// Memory is wanting.
+    /// Memory runs out.
     NoMemory,
 }
 
@@ -59,10 +59,10 @@ fn words<R: Env + AllocGlobal>(rt: &R, alloc: Global) -> Result<Line, NoMemory> 
 }
 
 // What serves where nothing is served.
-fn idle<N>(alloc: Global, network: Network<N>, service: Service) -> Crew<N>
+fn idle<N>(alloc: Global, network: Network<N>, service: Service) -> Serving<N>
     ensures { result.posts.items ≡ [] }
 {
-    Crew {
+    Serving {
         posts: Vec::new(alloc),
         tick: 0,
         network,
@@ -102,7 +102,7 @@ fn run<N: Nodes + Send, R: Threads + Wait + Sync>(
             let open = OpenStore {
                 name: store.as_slice(),
                 may_make: true,
-                crew: idle(alloc, network, service),
+                serving: idle(alloc, network, service),
             };
             over_file(rt, handles, alloc, &line, open)
         }
@@ -110,7 +110,7 @@ fn run<N: Nodes + Send, R: Threads + Wait + Sync>(
             let open = OpenStore {
                 name: store.as_slice(),
                 may_make: false,
-                crew: idle(alloc, network, service),
+                serving: idle(alloc, network, service),
             };
             over_file(rt, handles, alloc, &line, open)
         }
@@ -127,7 +127,7 @@ fn run<N: Nodes + Send, R: Threads + Wait + Sync>(
             let open = OpenStore {
                 name: store.as_slice(),
                 may_make: false,
-                crew: Crew {
+                serving: Serving {
                     posts,
                     tick,
                     network,

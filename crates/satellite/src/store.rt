@@ -1,6 +1,6 @@
 // Runs over the file of a store.
 use crate::StartErr;
-use crate::devices::{Crew, devices, run};
+use crate::devices::{Serving, devices, run};
 use keeper_sqlite::{KeeperSqlite, Refused};
 use sat_base::{Line, Nodes};
 use sat_devices::{Console, Watched};
@@ -27,7 +27,7 @@ const OTHERS: u32 = 0o077;
 pub struct OpenStore<'a, N> {
     pub name: &'a [u8],
     pub may_make: bool,
-    pub crew: Crew<N>,
+    pub serving: Serving<N>,
 }
 
 // Makes a file that only its owner may use, unless one stands there.
@@ -96,9 +96,9 @@ fn over_store<S: Alter + Drop + Send, N: Nodes + Send, R: Threads + Wait + Sync>
     alloc: Global,
     line: &Line,
     conn: Connection<S>,
-    crew: Crew<N>,
+    serving: Serving<N>,
 ) -> Result<(u8, Connection<S>), StartErr> {
-    if crew.posts.len() > LANES || !conn.is_autocommit() {
+    if serving.posts.len() > LANES || !conn.is_autocommit() {
         return Err(StartErr::Start);
     }
     let keeper = match KeeperSqlite::of(conn) {
@@ -106,9 +106,9 @@ fn over_store<S: Alter + Drop + Send, N: Nodes + Send, R: Threads + Wait + Sync>
         Err(Refused::Fault) => return Err(StartErr::Start),
         Err(Refused::NoMemory) => return Err(StartErr::NoMemory),
     };
-    let (mine, its) = (crew.service.share()?, crew.service.share()?);
+    let (mine, its) = (serving.service.share()?, serving.service.share()?);
     let console = Console::new(rt.reader(), io::writer(&rt));
-    let world = devices(rt, console, Watched::of(keeper, its), crew)?;
+    let world = devices(rt, console, Watched::of(keeper, its), serving)?;
     let (status, keeper) = run(handles, alloc, line, world);
     let conn = keeper.into_keeper().into_connection();
     if mine.lost_store() && status == 0 {
@@ -130,13 +130,13 @@ pub fn over_file<N: Nodes + Send, R: Threads + Wait + Sync>(
     let OpenStore {
         name,
         may_make,
-        crew,
+        serving,
     } = open;
     let Ok(path) = str::from_utf8(name) else {
         return Err(StartErr::Start);
     };
     let conn = opened(&rt, path, may_make)?;
-    let (status, conn) = over_store(rt, handles, alloc, line, conn, crew)?;
+    let (status, conn) = over_store(rt, handles, alloc, line, conn, serving)?;
     // What was committed stands whether it can be closed or not.
     let _ = conn.close();
     Ok(status)

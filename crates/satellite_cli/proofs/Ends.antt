@@ -2,6 +2,7 @@
 use Rattle.std.proofs.Common.{◌≡◌, ℕ, suc, List, [], ◌∷◌, map, Bool, true, false, Option, Some, None, refl, sym, ap, ◌∙◌, subst, inl, inr, arith}
 use Rattle.std.specs.Prelude.{◌⊎◌, ◌||◌, IfSome}
 use Rattle.std.specs.List.{list_any}
+use Rattle.std.proofs.lemmas.Bool.{or_cases}
 use Rattle.sat_base.specs.Outside.{About, Rose, counted, raised}
 use Rattle.sat_book.specs.Book.{BookView}
 use Rattle.sat_book.specs.Legal.{E}
@@ -9,18 +10,18 @@ use Rattle.sat_book.specs.Openings.{Opens}
 use Rattle.sat_base.specs.Rows.{Rows}
 use Rattle.sat_book.specs.declared.opening.OpenErr.TheVariants as errs
 use Rattle.sat_book.specs.declared.opening.Opening.{Opening}
-use Rattle.sat_rounds.specs.Lanes.{PostView}
-use Rattle.sat_rounds.specs.declared.lanes.LaneEnd.{LaneEnd}
-use Rattle.sat_term.specs.Crew.{Every, LaneRow}
+use Rattle.sat_sessions.specs.Lanes.{PostView}
+use Rattle.sat_sessions.specs.declared.lanes.LaneEnd.{LaneEnd}
+use Rattle.sat_term.specs.Workers.{Every, LaneRow}
 use Rattle.sat_term.specs.Term.{LaneClauses, TermClauses, is_failed}
-use Rattle.sat_term.specs.declared.crew.Ends.{Ends}
-use Rattle.sat_term.specs.declared.crew.Term.{Term}
+use Rattle.sat_term.specs.declared.term.Ends.{Ends}
+use Rattle.sat_term.specs.declared.term.Term.{Term}
 use Rattle.node_rounds.specs.Kits.{Tells}
 use Rattle.node_rounds.specs.Tally.{TallyTells}
 use Rattle.node_rounds.specs.declared.upkeep.Upkeep.TheVariants as kinds
 use Rattle.satellite_cli.proofs.Wordless.{told_words}
 use Rattle.satellite_cli.specs.Ending.{EndsWith, Finishes, Flags, SaysEntries, flags_of, term_status}
-use Rattle.satellite_cli.specs.Serving.{AreSound, Causes, IsIdle, IsTerm, Kits, NoneRose, NotOpened, NoWordsRose, RoseBelow, Some1, StaffView}
+use Rattle.satellite_cli.specs.Serving.{AreSound, Causes, IsIdle, IsTerm, Kits, NoneRose, NotOpened, NoWordsRose, RoseBelow, Some1, DevicesView}
 use Rattle.satellite_cli.specs.declared.ending.LastLine.{LastLine}
 use Rattle.satellite_cli.specs.declared.ending.LastLine.TheVariants as last
 
@@ -145,10 +146,6 @@ cut_rose n status line old mid new said fault cut five =
     let says : SaysEntries n last.Cut old mid = subst (λ (l : LastLine). SaysEntries n l old mid) cut said in
     subst (λ (a : About). Rose old.write_faults a.write_faults) (sym same) says.1
 
-or_true : (a b : Bool) → (a || b) ≡ true → (a ≡ true) ⊎ (b ≡ true)
-or_true true b h = inl refl
-or_true false b h = inr h
-
 true_or : (a b : Bool) → (a ≡ true) ⊎ (b ≡ true) → (a || b) ≡ true
 true_or true b h = refl
 true_or false b (inl h) = absurd (cc)
@@ -169,7 +166,7 @@ module _ (secret : List ℕ) (term : ℕ) (opening : Opening) (t : Term) (ends :
         is_full = λ h. is ∙ six_is flags.full flags.failed flags.wordless flags.wanting f.line h;
         failed = λ h. failed_rose secret term t.history.items c.rows c.lanes (by_rows ∙ seven_only flags.full flags.failed flags.wordless flags.wanting f.line (sym is ∙ h));
         is_failed = λ other some. is ∙ seven_is flags.full flags.failed flags.wordless flags.wanting f.line (sym by_rows ∙ rose_failed secret term t.history.items c.rows c.lanes some) (λ h. other (is ∙ h));
-        wordless = λ h. elim (or_true _ _ (ten_only flags.full flags.failed flags.wordless flags.wanting f.line (sym is ∙ h))) [
+        wordless = λ h. elim (or_cases _ _ (ten_only flags.full flags.failed flags.wordless flags.wanting f.line (sym is ∙ h))) [
           | inl some ↦ inl (audit.rose some)
           | inr some ↦ inr (repair.rose some)
         ];
@@ -196,7 +193,7 @@ ends_well t rows status old new posts posts_after kits kits_after c before after
 ]
 
 module _ {K : Type 0} (faults : K → ℕ) (is_clean is_open tells : K → Type 0) (rows_at : K → Rows) (leaves : K → Rows → Type 0) where
-  -- a sound store isn't opened only for want of memory
+  -- a sound store isn't opened only for lack of memory
   pub closed_well : (old new : K) (status : ℕ) (said said_after : About) → NotOpened faults is_clean is_open tells rows_at leaves old new status said said_after
       → is_open new → tells old → AreSound (rows_at old) → (Rose (faults old) (faults new) → ⊥) → status ≡ 9
   closed_well old new status said said_after (inl (errs.Fault, refused, inl says)) up told sound no_fault = absurd (no_fault refused.cause)
@@ -209,15 +206,15 @@ module _ {K : Type 0} (faults : K → ℕ) (is_clean is_open tells : K → Type 
   closed_well old new status said said_after (inr none) up told sound no_fault = none.1
 
   -- over sound rows, where no count rose and the term wasn't full
-  pub serves_well : (told : Option Term) (secret : BookView K → List ℕ) (term lanes : ℕ) (old new : K) (status : ℕ) (said said_after : About) (staff staff_after : StaffView) (Back : Type 0)
+  pub serves_well : (told : Option Term) (secret : BookView K → List ℕ) (term lanes : ℕ) (old new : K) (status : ℕ) (said said_after : About) (devices devices_after : DevicesView) (Back : Type 0)
       → (told ≡ None → NotOpened faults is_clean is_open tells rows_at leaves old new status said said_after × Back)
       → IfSome told (λ t. (b : BookView K) × Opens faults is_clean is_open tells rows_at leaves old term b
-      × (IsTerm faults is_clean is_open tells rows_at leaves (secret b) term b new t status said said_after staff staff_after
+      × (IsTerm faults is_clean is_open tells rows_at leaves (secret b) term b new t status said said_after devices devices_after
       ⊎ (IsIdle faults is_clean is_open tells rows_at leaves lanes b new t status said said_after × Back)))
       → is_open new → tells old → AreSound (rows_at old) → (Rose (faults old) (faults new) → ⊥) → (Rose said.write_faults said_after.write_faults → ⊥)
-      → NoneRose staff.posts staff_after.posts → NoWordsRose staff.kits staff_after.kits → (status ≡ 6 → ⊥) → (status ≡ 0) ⊎ (status ≡ 9)
-  serves_well None secret term lanes old new status said said_after staff staff_after Back closed ran up told sound no_fault no_cut none no_words no_full =
+      → NoneRose devices.posts devices_after.posts → NoWordsRose devices.kits devices_after.kits → (status ≡ 6 → ⊥) → (status ≡ 0) ⊎ (status ≡ 9)
+  serves_well None secret term lanes old new status said said_after devices devices_after Back closed ran up told sound no_fault no_cut none no_words no_full =
       inr (closed_well old new status said said_after (closed refl).0 up told sound no_fault)
-  serves_well (Some t) secret term lanes old new status said said_after staff staff_after Back closed (b, opens, inl ran) up told sound no_fault no_cut none no_words no_full =
-      ends_well t ran.clauses.rows status said said_after staff.posts staff_after.posts staff.kits staff_after.kits ran.causes ran.clauses.are_rows.befores_are ran.clauses.are_rows.afters_are none no_cut no_words no_full
-  serves_well (Some t) secret term lanes old new status said said_after staff staff_after Back closed (b, opens, inr (idle, back)) up told sound no_fault no_cut none no_words no_full = inr idle.is_wanting
+  serves_well (Some t) secret term lanes old new status said said_after devices devices_after Back closed (b, opens, inl ran) up told sound no_fault no_cut none no_words no_full =
+      ends_well t ran.clauses.rows status said said_after devices.posts devices_after.posts devices.kits devices_after.kits ran.causes ran.clauses.are_rows.befores_are ran.clauses.are_rows.afters_are none no_cut no_words no_full
+  serves_well (Some t) secret term lanes old new status said said_after devices devices_after Back closed (b, opens, inr (idle, back)) up told sound no_fault no_cut none no_words no_full = inr idle.is_out_of_memory

@@ -3,11 +3,11 @@ use Rattle.std.proofs.Common.{◌≡◌, ◌∙◌, List, [], ◌∷◌, map, Bo
 use Rattle.std.specs.Prelude.{◌||◌}
 use Rattle.std.specs.List.{list_any}
 use Rattle.desk_runs.specs.Runs.{some_is}
-use Rattle.sat_rounds.specs.Lanes.{session_full}
-use Rattle.sat_rounds.specs.Rounds.{round_full}
-use Rattle.sat_rounds.specs.declared.told.Session.{Session}
+use Rattle.sat_sessions.specs.Lanes.{session_full}
+use Rattle.sat_sessions.specs.Rounds.{round_full}
+use Rattle.sat_sessions.specs.declared.told.Session.{Session}
 use Rattle.sat_term.specs.Term.{met_full}
-use Rattle.sat_term.specs.declared.crew.Term.{Term}
+use Rattle.sat_term.specs.declared.term.Term.{Term}
 
 any_some : {X : Type 0} (p : X → Bool) (xs : List X) → list_any p xs ≡ some_is p xs
 any_some p [] = refl

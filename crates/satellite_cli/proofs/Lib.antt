@@ -5,6 +5,6 @@ pub mod Full
 pub mod Inits
 pub mod Named
 pub mod Prints
-pub mod Staffs
+pub mod WorkerDevices
 pub mod Terms
 pub mod Wordless

@@ -32,8 +32,8 @@ use Rattle.node_rounds.specs.declared.upkeep.Upkeep.TheVariants as kinds
 use Rattle.sat_book.specs.Book.{start_of}
 use Rattle.sat_book.specs.Legal.{E, IsHistory, said_of}
 use Rattle.sat_book.specs.declared.opening.Opening.{Opening}
-use Rattle.sat_rounds.specs.declared.rounds.Round.{Round}
-use Rattle.sat_rounds.specs.declared.rounds.RoundEnd.{RoundEnd}
+use Rattle.sat_sessions.specs.declared.rounds.Round.{Round}
+use Rattle.sat_sessions.specs.declared.rounds.RoundEnd.{RoundEnd}
 use Rattle.sat_term.specs.Term.{AreTold}
 use Rattle.satellite_cli.specs.Headline.{KeepsBytes, KeepsSegment, SpeaksOfNamed}
 

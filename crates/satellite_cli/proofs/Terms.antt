@@ -11,13 +11,13 @@ use Rattle.sat_book.specs.Paid.{ClosedMonthsStay, PaysByTariff}
 use Rattle.sat_book.specs.declared.opening.Opening.{Opening}
 use Rattle.sat_console.specs.Run.{Says}
 use Rattle.sat_term.specs.Term.{TermClauses}
-use Rattle.sat_term.specs.declared.crew.Ends.{Ends}
-use Rattle.sat_term.specs.declared.crew.Term.{Term}
+use Rattle.sat_term.specs.declared.term.Ends.{Ends}
+use Rattle.sat_term.specs.declared.term.Term.{Term}
 use Rattle.node_rounds.specs.Kits.{Tells}
 use Rattle.node_rounds.specs.Tally.{TallyTells}
 use Rattle.node_rounds.specs.declared.upkeep.Upkeep.TheVariants as kinds
 use Rattle.satellite_cli.specs.Ending.{Finishes, flags_of}
-use Rattle.satellite_cli.specs.Serving.{IsIdle, IsTerm, Stands, StaffView}
+use Rattle.satellite_cli.specs.Serving.{IsIdle, IsTerm, Stands, DevicesView}
 use Rattle.satellite_cli.proofs.Ends.{causes_of}
 use Rattle.satellite_cli.proofs.Named.{speaks_of_named}
 
@@ -28,14 +28,14 @@ pub says_to : (line : List ℕ) (old a b : About) → a ≡ b → Says line old 
 says_to line old a b same = subst (λ (x : About). Says line old x) (sym same)
 
 -- the clauses of a term with these keys
-abbrev pub ClausesOf : List ℕ → ℕ → Opening → Term → Ends → (staff staff_after : StaffView) → Type 0
-ClausesOf secret term opening t ends staff staff_after = TermClauses (Tells kinds.Recheck kinds.Audit (Some opening)) (Tells kinds.Repair kinds.Exit (Some opening)) (TallyTells (Some opening))
-    secret term opening t ends staff.posts staff_after.posts staff.kits staff_after.kits
+abbrev pub ClausesOf : List ℕ → ℕ → Opening → Term → Ends → (devices devices_after : DevicesView) → Type 0
+ClausesOf secret term opening t ends devices devices_after = TermClauses (Tells kinds.Recheck kinds.Audit (Some opening)) (Tells kinds.Repair kinds.Exit (Some opening)) (TallyTells (Some opening))
+    secret term opening t ends devices.posts devices_after.posts devices.kits devices_after.kits
 
--- the same of equal staffs
-pub moved_clauses : (secret : List ℕ) (term : ℕ) (opening : Opening) (t : Term) (ends : Ends) (a b c d : StaffView) → a ≡ b → c ≡ d
+-- the same of equal devices
+pub moved_clauses : (secret : List ℕ) (term : ℕ) (opening : Opening) (t : Term) (ends : Ends) (a b c d : DevicesView) → a ≡ b → c ≡ d
     → ClausesOf secret term opening t ends a c → ClausesOf secret term opening t ends b d
-moved_clauses secret term opening t ends a b c d before after = subst (λ (z : StaffView × StaffView). ClausesOf secret term opening t ends z.0 z.1) (λ i. (before i, after i))
+moved_clauses secret term opening t ends a b c d before after = subst (λ (z : DevicesView × DevicesView). ClausesOf secret term opening t ends z.0 z.1) (λ i. (before i, after i))
 
 module _ {K : Type 0} (faults : K → ℕ) (is_clean is_open tells : K → Type 0) (rows_at : K → Rows) (leaves : K → Rows → Type 0) where
   -- what is said of a book's own history holds of the one that it hands out
@@ -46,47 +46,47 @@ module _ {K : Type 0} (faults : K → ℕ) (is_clean is_open tells : K → Type 
   stands_of b keeper history history' same spelled once pays closed keeps shown = subst (λ (h : List E). Stands faults is_clean is_open tells rows_at leaves b keeper h) (sym same)
       (record { spelled = spelled; once = once; pays = pays; closed = closed; keeps = keeps; shown = shown })
 
-  pub term_of : (secret secret' : List ℕ) (term : ℕ) (b : BookView K) (keeper : K) (t : Term) (ends : Ends) (status : ℕ) (old0 old new : About) (staff staff_after : StaffView)
-      → secret' ≡ secret → ClausesOf secret' term b.opening t ends staff staff_after
+  pub term_of : (secret secret' : List ℕ) (term : ℕ) (b : BookView K) (keeper : K) (t : Term) (ends : Ends) (status : ℕ) (old0 old new : About) (devices devices_after : DevicesView)
+      → secret' ≡ secret → ClausesOf secret' term b.opening t ends devices devices_after
       → Spell b.opening → SettleOnce (start_of b.opening) (map said_of t.history.items)
       → PaysByTariff (replayed (start_of b.opening) t.history.items) → ClosedMonthsStay (start_of b.opening) t.history.items
       → Keeps is_clean is_open tells rows_at leaves b.first b.opened keeper (start_of b.opening) t.history.items → last_shown b.opening.faults t.history.items ≤ faults keeper
       → old ≡ old0 → Finishes (flags_of t ends) (length t.history.items) status old new
-      → IsTerm faults is_clean is_open tells rows_at leaves secret term b keeper t status old0 new staff staff_after
-  term_of secret secret' term b keeper t ends status old0 old new staff staff_after same c0 spelled once pays closed keeps shown quiet f0 =
-      let c : ClausesOf secret term b.opening t ends staff staff_after = subst (λ (s : List ℕ). ClausesOf s term b.opening t ends staff staff_after) same c0 in
+      → IsTerm faults is_clean is_open tells rows_at leaves secret term b keeper t status old0 new devices devices_after
+  term_of secret secret' term b keeper t ends status old0 old new devices devices_after same c0 spelled once pays closed keeps shown quiet f0 =
+      let c : ClausesOf secret term b.opening t ends devices devices_after = subst (λ (s : List ℕ). ClausesOf s term b.opening t ends devices devices_after) same c0 in
       let f : Finishes (flags_of t ends) (length t.history.items) status old0 new = subst (λ (x : About). Finishes (flags_of t ends) (length t.history.items) status x new) quiet f0 in
       record {
         ends = ends;
         clauses = c;
         stands = record { spelled = spelled; once = once; pays = pays; closed = closed; keeps = keeps; shown = shown };
-        named = speaks_of_named b.opening b.opening.faults t.history.items spelled.valid c.whole.legal kinds.Repair kinds.Exit c.repair_number staff.kits.repair t.repairs.items staff_after.kits.repair c.repair.told;
+        named = speaks_of_named b.opening b.opening.faults t.history.items spelled.valid c.whole.legal kinds.Repair kinds.Exit c.repair_number devices.kits.repair t.repairs.items devices_after.kits.repair c.repair.told;
         finishes = f;
-        causes = causes_of secret term b.opening t ends staff.posts staff_after.posts staff.kits staff_after.kits (length t.history.items) status old0 new c f;
+        causes = causes_of secret term b.opening t ends devices.posts devices_after.posts devices.kits devices_after.kits (length t.history.items) status old0 new c f;
       }
 
   -- there was no memory for the workers
-  pub idle_of : (told : Option Term) (term lanes lanes' : ℕ) (first : K) (b b' : BookView K) (keeper : K) (status : ℕ) (old0 old new : About) (staff staff_after : StaffView) (Back : Type 0)
+  pub idle_of : (told : Option Term) (term lanes lanes' : ℕ) (first : K) (b b' : BookView K) (keeper : K) (status : ℕ) (old0 old new : About) (devices devices_after : DevicesView) (Back : Type 0)
       → Opens faults is_clean is_open tells rows_at leaves first term b → old ≡ old0 → b' ≡ b → lanes' ≡ lanes
       → IfSome told (λ t. IsIdle faults is_clean is_open tells rows_at leaves lanes' b' keeper t status old new) → Back
       → IfSome told (λ t. (book : BookView K) × Opens faults is_clean is_open tells rows_at leaves first term book
-      × (IsTerm faults is_clean is_open tells rows_at leaves (start_of book.opening).setup.secret term book keeper t status old0 new staff staff_after
+      × (IsTerm faults is_clean is_open tells rows_at leaves (start_of book.opening).setup.secret term book keeper t status old0 new devices devices_after
       ⊎ (IsIdle faults is_clean is_open tells rows_at leaves lanes book keeper t status old0 new × Back)))
-  idle_of None term lanes lanes' first b b' keeper status old0 old new staff staff_after Back opens quiet same few idle back = tt
-  idle_of (Some t) term lanes lanes' first b b' keeper status old0 old new staff staff_after Back opens quiet same few idle back = (
+  idle_of None term lanes lanes' first b b' keeper status old0 old new devices devices_after Back opens quiet same few idle back = tt
+  idle_of (Some t) term lanes lanes' first b b' keeper status old0 old new devices devices_after Back opens quiet same few idle back = (
     b,
     opens,
     inr (subst (λ (z : ℕ × BookView K × About). IsIdle faults is_clean is_open tells rows_at leaves z.0 z.1 keeper t status z.2 new) (λ i. (few i, same i, quiet i)) idle, back),
   )
 
   -- what is told of all that came back may be told otherwise
-  pub came_back_as : (told : Option Term) (term lanes : ℕ) (first keeper : K) (status : ℕ) (old new : About) (staff staff_after : StaffView) (A B : Type 0) → (A → B)
+  pub came_back_as : (told : Option Term) (term lanes : ℕ) (first keeper : K) (status : ℕ) (old new : About) (devices devices_after : DevicesView) (A B : Type 0) → (A → B)
       → IfSome told (λ t. (book : BookView K) × Opens faults is_clean is_open tells rows_at leaves first term book
-      × (IsTerm faults is_clean is_open tells rows_at leaves (start_of book.opening).setup.secret term book keeper t status old new staff staff_after
+      × (IsTerm faults is_clean is_open tells rows_at leaves (start_of book.opening).setup.secret term book keeper t status old new devices devices_after
       ⊎ (IsIdle faults is_clean is_open tells rows_at leaves lanes book keeper t status old new × A)))
       → IfSome told (λ t. (book : BookView K) × Opens faults is_clean is_open tells rows_at leaves first term book
-      × (IsTerm faults is_clean is_open tells rows_at leaves (start_of book.opening).setup.secret term book keeper t status old new staff staff_after
+      × (IsTerm faults is_clean is_open tells rows_at leaves (start_of book.opening).setup.secret term book keeper t status old new devices devices_after
       ⊎ (IsIdle faults is_clean is_open tells rows_at leaves lanes book keeper t status old new × B)))
-  came_back_as None term lanes first keeper status old new staff staff_after A B turn ran = tt
-  came_back_as (Some t) term lanes first keeper status old new staff staff_after A B turn (b, opens, inl is) = (b, opens, inl is)
-  came_back_as (Some t) term lanes first keeper status old new staff staff_after A B turn (b, opens, inr (idle, back)) = (b, opens, inr (idle, turn back))
+  came_back_as None term lanes first keeper status old new devices devices_after A B turn ran = tt
+  came_back_as (Some t) term lanes first keeper status old new devices devices_after A B turn (b, opens, inl is) = (b, opens, inl is)
+  came_back_as (Some t) term lanes first keeper status old new devices devices_after A B turn (b, opens, inr (idle, back)) = (b, opens, inr (idle, turn back))

@@ -1,4 +1,4 @@
--- Rounds for which random words were wanting are counted.
+-- Rounds for which random words ran out are counted.
 use Rattle.std.proofs.Common.{◌≡◌, ℕ, ◌≤◌, List, [], ◌∷◌, Bool, true, false, Option, Some, None, refl, sym, ap, ◌∙◌, subst, arith}
 use Rattle.std.specs.Prelude.{◌||◌}
 use Rattle.std.specs.List.{list_any}
@@ -8,9 +8,9 @@ use Rattle.machine_calls.specs.declared.reply.Reply.{Reply}
 use Rattle.sat_book.specs.Book.{start_of}
 use Rattle.sat_book.specs.Legal.{E}
 use Rattle.sat_book.specs.declared.opening.Opening.{Opening}
-use Rattle.sat_rounds.specs.declared.rounds.Round.{Round}
-use Rattle.sat_rounds.specs.declared.rounds.RoundEnd.{RoundEnd}
-use Rattle.sat_rounds.specs.declared.rounds.RoundEnd.TheVariants as ends
+use Rattle.sat_sessions.specs.declared.rounds.Round.{Round}
+use Rattle.sat_sessions.specs.declared.rounds.RoundEnd.{RoundEnd}
+use Rattle.sat_sessions.specs.declared.rounds.RoundEnd.TheVariants as ends
 use Rattle.sat_term.specs.Term.{AreTold}
 use Rattle.node_rounds.specs.Kits.{Tells}
 use Rattle.node_rounds.specs.Parts.{S, Follows, Part, Planned, Readied, Unended}

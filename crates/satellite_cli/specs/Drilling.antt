@@ -11,7 +11,7 @@ pub record IsTold (d : Drilled) (status : ℕ) (old new : About) : Type 0 where
   pub says : Says d.text old new
   pub ends : ((status ≡ 0) × (new.written ≡ with_end old.written d.text)) ⊎ ((status ≡ 5) × Rose old.write_faults new.write_faults)
 
--- a drill by what it did; there is none where memory was wanting
+-- a drill by what it did; there is none where memory ran out
 abbrev pub Drills : ℕ → About → About → Option Drilled → Type 0
 Drills status old new (Some d) = IsTold d status old new
 Drills status old new None = (status ≡ 9) × Says (fault_line 9) old new

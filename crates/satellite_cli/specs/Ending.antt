@@ -6,17 +6,18 @@ use Rattle.sat_book.specs.declared.opening.OpenErr.{OpenErr}
 use Rattle.sat_book.specs.declared.opening.OpenErr.TheVariants as errs
 use Rattle.sat_console.specs.Run.{Says, fault_line}
 use Rattle.sat_console.specs.Words.{numbered_text, store_text}
-use Rattle.sat_rounds.specs.declared.lanes.LaneEnd.{LaneEnd}
-use Rattle.sat_rounds.specs.declared.lanes.LaneEnd.TheVariants as lanes
-use Rattle.sat_rounds.specs.declared.rounds.Round.{Round}
-use Rattle.sat_rounds.specs.declared.rounds.RoundEnd.{RoundEnd}
-use Rattle.sat_rounds.specs.declared.rounds.RoundEnd.TheVariants as rounds
-use Rattle.sat_rounds.specs.declared.rounds.RoundsEnd.{RoundsEnd}
-use Rattle.sat_rounds.specs.declared.rounds.RoundsEnd.TheVariants as workers
-use Rattle.sat_rounds.specs.declared.told.Session.{Session}
+use Rattle.sat_sessions.specs.declared.lanes.TheConstants as bounds
+use Rattle.sat_sessions.specs.declared.lanes.LaneEnd.{LaneEnd}
+use Rattle.sat_sessions.specs.declared.lanes.LaneEnd.TheVariants as lanes
+use Rattle.sat_sessions.specs.declared.rounds.Round.{Round}
+use Rattle.sat_sessions.specs.declared.rounds.RoundEnd.{RoundEnd}
+use Rattle.sat_sessions.specs.declared.rounds.RoundEnd.TheVariants as rounds
+use Rattle.sat_sessions.specs.declared.rounds.RoundsEnd.{RoundsEnd}
+use Rattle.sat_sessions.specs.declared.rounds.RoundsEnd.TheVariants as workers
+use Rattle.sat_sessions.specs.declared.told.Session.{Session}
 use Rattle.sat_term.specs.Term.{is_failed, met_full}
-use Rattle.sat_term.specs.declared.crew.Ends.{Ends}
-use Rattle.sat_term.specs.declared.crew.Term.{Term}
+use Rattle.sat_term.specs.declared.term.Ends.{Ends}
+use Rattle.sat_term.specs.declared.term.Term.{Term}
 use Rattle.satellite_cli.specs.declared.ending.LastLine.{LastLine}
 use Rattle.satellite_cli.specs.declared.ending.LastLine.TheVariants as last
 
@@ -35,12 +36,12 @@ open_line (errs.BadRow kind id) = store_text 0 kind id
 open_line (errs.BadTables rule kind id) = store_text rule kind id
 open_line errs.NoMemory = fault_line 9
 
--- what breaks the store is said, or that memory is wanting
+-- what breaks the store is said, or that memory runs out
 abbrev pub SaysBad : (rule kind : ℕ) → List ℕ → ℕ → About → About → Type 0
 SaysBad rule kind id status old new =
     ((status ≡ 4) × Says (store_text rule kind id) old new) ⊎ ((status ≡ 9) × Says (fault_line 9) old new)
 
--- why there is no book is said, or that memory is wanting
+-- why there is no book is said, or that memory runs out
 abbrev pub SaysWhy : OpenErr → ℕ → About → About → Type 0
 SaysWhy why status old new =
     ((status ≡ open_status why) × Says (open_line why) old new) ⊎ ((status ≡ 9) × Says (fault_line 9) old new)
@@ -49,17 +50,17 @@ SaysWhy why status old new =
 
 -- a lane had as many sessions as a lane may have
 abbrev pub has_many : List Session → Bool
-has_many sessions = length sessions == 65536
+has_many sessions = length sessions == bounds.SESSIONS
 
-abbrev pub is_wanting : LaneEnd → Bool
-is_wanting lanes.NoMemory = true
-is_wanting _ = false
+abbrev pub is_out_of_memory : LaneEnd → Bool
+is_out_of_memory lanes.NoMemory = true
+is_out_of_memory _ = false
 
 abbrev pub is_short : RoundsEnd → Bool
 is_short workers.NoMemory = true
 is_short _ = false
 
--- random words were wanting for a round
+-- random words ran out for a round
 abbrev pub is_wordless : RoundEnd → Bool
 is_wordless rounds.WordsFault = true
 is_wordless _ = false
@@ -79,7 +80,7 @@ abbrev pub lacks_words : Term → Bool
 lacks_words t = list_any (λ x. is_wordless x.end) t.audits.items || list_any (λ x. is_wordless x.end) t.repairs.items
 
 abbrev pub lacks_memory : Ends → Bool
-lacks_memory ends = list_any is_wanting ends.lanes.items || (is_short ends.audit || (is_short ends.repair || is_short ends.tally))
+lacks_memory ends = list_any is_out_of_memory ends.lanes.items || (is_short ends.audit || (is_short ends.repair || is_short ends.tally))
 
 abbrev pub flags_of : Term → Ends → Flags
 flags_of t ends = record {

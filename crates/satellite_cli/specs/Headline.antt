@@ -8,6 +8,7 @@ use Rattle.repair_core.specs.declared.outcome.Mended.{Mended}
 use Rattle.repair_core.specs.declared.outcome.RepairOutcome.TheVariants as repairs
 use Rattle.repair_core.specs.declared.plan.RepairPlan.{RepairPlan}
 use Rattle.machine_calls.specs.declared.call.Call.TheVariants as calls
+use Rattle.machine_calls.specs.declared.task.Task.TheVariants as tasks
 use Rattle.machine_step.specs.Step.{IsSchemeOf}
 use Rattle.machine_step.specs.Tables.{Tables}
 use Rattle.machine_plans.specs.Ends.{is_audit_ended, is_repair_ended, move_end, repair_end}
@@ -29,7 +30,7 @@ module _ (start : Tables) (history : List E) where
   -- an audit that this entry ends, and that isn't superseded, blames exactly the shares that aren't the segment's, wherever r
   -- answered, at least k + 2, and at most (r - k) / 2 of them are such
   abbrev pub BlamesAltered : E → Type 0
-  BlamesAltered e = (now : ℕ) (judged : Judged) (named : List ℕ) → e.call ≡ calls.EndAudit now judged → is_audit_ended e.reply ≡ true
+  BlamesAltered e = (now : ℕ) (judged : Judged) (named : List ℕ) → e.call ≡ calls.Own now (tasks.EndAudit judged) → is_audit_ended e.reply ≡ true
       → IsNamed (tables_at e.place) judged.plan.segment.0 named → IsAnsweredWell judged named → BlamesJust judged named e.reply
 
   module _ (secret : List ℕ) (scheme : Scheme) where

@@ -16,12 +16,12 @@ use Rattle.sat_book.specs.Openings.{BreaksRule, Refuses}
 use Rattle.sat_book.specs.declared.opening.OpenErr.{OpenErr}
 use Rattle.sat_book.specs.declared.opening.Opening.{Opening}
 use Rattle.sat_console.specs.Run.{Says, fault_line}
-use Rattle.sat_rounds.specs.Lanes.{PostView, post_view}
-use Rattle.sat_rounds.specs.declared.lanes.Post.{Post}
-use Rattle.sat_term.specs.Crew.{KitsView, LaneRow}
+use Rattle.sat_sessions.specs.Lanes.{PostView, post_view}
+use Rattle.sat_sessions.specs.declared.lanes.Post.{Post}
+use Rattle.sat_term.specs.Workers.{KitsView, LaneRow}
 use Rattle.sat_term.specs.Term.{TermClauses, met_full}
-use Rattle.sat_term.specs.declared.crew.Ends.{Ends}
-use Rattle.sat_term.specs.declared.crew.Term.{Term}
+use Rattle.sat_term.specs.declared.term.Ends.{Ends}
+use Rattle.sat_term.specs.declared.term.Term.{Term}
 use Rattle.bw_decode.specs.Room.{Room}
 use Rattle.node_rounds.specs.Askable.{IsStoreOf}
 use Rattle.node_rounds.specs.Asked.{nodes_view}
@@ -30,7 +30,7 @@ use Rattle.node_rounds.specs.Parts.{kit_view}
 use Rattle.node_rounds.specs.Tally.{TallyTells, tally_view}
 use Rattle.node_rounds.specs.declared.kit.Kit.{Kit}
 use Rattle.node_rounds.specs.declared.kit.NodesView.{NodesView}
-use Rattle.node_rounds.specs.declared.kit.Store.{Store}
+use Rattle.node_rounds.specs.declared.kit.RoundStore.{RoundStore}
 use Rattle.node_rounds.specs.declared.upkeep.Upkeep.TheVariants as kinds
 use Rattle.satellite_cli.specs.Ending.{Finishes, SaysWhy, flags_of, has_all_sessions}
 use Rattle.satellite_cli.specs.Headline.{SpeaksOfNamed}
@@ -43,22 +43,22 @@ pub record AreSound (rows : Rows) : Type 0 where
 -- ---- the workers
 
 -- what a worker that asks nodes goes by is the store's, and its decoder has room for each answer
-abbrev pub Fits : Opening → Store → Room → Type 0
+abbrev pub Fits : Opening → RoundStore → Room → Type 0
 Fits opening store room = IsStoreOf opening store.keys store.scheme × (store.scheme.n ≤ room.points)
 
 -- what is told of the workers of rounds, and of all
 abbrev pub Kits : Type 0
 Kits = KitsView NodesView NodesView (Unit {0})
 
-pub record StaffView : Type 0 where
+pub record DevicesView : Type 0 where
   pub posts : List PostView
   pub kits : Kits
 
 module _ {L T W N I : Type 0} (lane : L → LaneView) (coming : T → Option (List ℕ)) (left : W → Option (List ℕ)) (words_faults : W → ℕ)
     (held : N → Option (List Held)) (asks : N → Option (List Ask)) (nodes_faults : N → ℕ) (ticks : I → TicksView) where
   -- what is told of posts and three kits. The worker of tallies has no nodes and no words
-  abbrev pub staff_view : List (Post L T W) → Kit N T W I → Kit N T W I → Kit N T W I → StaffView
-  staff_view posts audit repair tally = record {
+  abbrev pub devices_view : List (Post L T W) → Kit N T W I → Kit N T W I → Kit N T W I → DevicesView
+  devices_view posts audit repair tally = record {
     posts = map (post_view lane coming left words_faults) posts;
     kits = record {
       audit = kit_view (nodes_view held asks nodes_faults) coming left words_faults ticks audit;
@@ -119,15 +119,15 @@ module _ {K : Type 0} (faults : K → ℕ) (is_clean is_open tells : K → Type 
 
   -- a term of the book: whose replies are those of one machine, which worker made which entry, what each round asked and
   -- found, and why each worker ended
-  pub record IsTerm (secret : List ℕ) (term : ℕ) (b : BookView K) (keeper : K) (t : Term) (status : ℕ) (old new : About) (staff staff_after : StaffView) : Type 0 where
+  pub record IsTerm (secret : List ℕ) (term : ℕ) (b : BookView K) (keeper : K) (t : Term) (status : ℕ) (old new : About) (devices devices_after : DevicesView) : Type 0 where
     pub ends : Ends
     pub clauses : TermClauses (Tells kinds.Recheck kinds.Audit (Some b.opening)) (Tells kinds.Repair kinds.Exit (Some b.opening)) (TallyTells (Some b.opening))
-        secret term b.opening t ends staff.posts staff_after.posts staff.kits staff_after.kits
+        secret term b.opening t ends devices.posts devices_after.posts devices.kits devices_after.kits
     pub stands : Stands b keeper t.history.items
     -- whom its audits blame, and which bytes its repairs keep, of any segment that the reader names
     pub named : SpeaksOfNamed (start_of b.opening).setup.secret b.opening t.history.items clauses.repair_number
     pub finishes : Finishes (flags_of t ends) (length t.history.items) status old new
-    pub causes : Causes t clauses.rows staff.kits staff_after.kits status old new
+    pub causes : Causes t clauses.rows devices.kits devices_after.kits status old new
 
   -- a term for which there was no memory: nothing was entered
   pub record IsIdle (lanes : ℕ) (b : BookView K) (keeper : K) (t : Term) (status : ℕ) (old new : About) : Type 0 where
@@ -136,5 +136,5 @@ module _ {K : Type 0} (faults : K → ℕ) (is_clean is_open tells : K → Type 
     pub passes : length t.passes.items ≡ lanes + 3
     pub lists : length t.lanes.items ≡ lanes
     pub stands : Stands b keeper t.history.items
-    pub is_wanting : status ≡ 9
+    pub is_out_of_memory : status ≡ 9
     pub says : Says (fault_line 9) old new

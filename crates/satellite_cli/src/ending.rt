@@ -2,15 +2,15 @@
 ghost use Rattle.std.specs.Prelude.{◌≡◌, length};
 ghost use Rattle.std.specs.List.{list_any};
 ghost use Rattle.sat_console.specs.Run.{code_of};
-ghost use Rattle.sat_rounds.specs.Lanes.{session_full};
-ghost use Rattle.sat_rounds.specs.Rounds.{round_full};
+ghost use Rattle.sat_sessions.specs.Lanes.{session_full};
+ghost use Rattle.sat_sessions.specs.Rounds.{round_full};
 ghost use Rattle.sat_term.specs.Term.{is_failed, met_full};
-ghost use Rattle.satellite_cli.specs.Ending.{EndsWith, Finishes, SaysBad, SaysEntries, SaysWhy, flags_of, has_all_sessions, is_short, is_wanting, is_wordless, lacks_memory, lacks_words, term_status};
+ghost use Rattle.satellite_cli.specs.Ending.{EndsWith, Finishes, SaysBad, SaysEntries, SaysWhy, flags_of, has_all_sessions, is_short, is_out_of_memory, is_wordless, lacks_memory, lacks_words, term_status};
 
 use sat_base::{Link, NoMemory};
 use sat_book::OpenErr;
 use sat_console::{Status, fault, numbered_line, say, store_line};
-use sat_rounds::{LaneEnd, Round, RoundEnd, RoundsEnd, Session, SessionEnd};
+use sat_sessions::{LaneEnd, Round, RoundEnd, RoundsEnd, SESSIONS, Session, SessionEnd};
 use sat_term::{Ends, Term};
 use std::alloc::Global;
 
@@ -75,9 +75,6 @@ fn met_full(term: &Term) -> bool
         || some_round_full(&term.tallies)
 }
 
-// The most sessions of a lane.
-const SESSIONS: usize = 65536;
-
 fn has_all_sessions(term: &Term) -> bool
     ensures { result ≡ has_all_sessions term.now }
 {
@@ -90,7 +87,7 @@ fn some_failed(ends: &[LaneEnd]) -> bool
     ends.iter().any(|end| matches!(*end, LaneEnd::Failed))
 }
 
-// Whether random words were wanting for a round.
+// Whether random words ran out for a round.
 fn some_wordless(rounds: &[Round]) -> bool
     ensures { result ≡ list_any (λ round. is_wordless round.end) rounds.now }
 {
@@ -106,7 +103,7 @@ fn lacks_words(term: &Term) -> bool
 }
 
 fn some_wanting(ends: &[LaneEnd]) -> bool
-    ensures { result ≡ list_any is_wanting ends.now }
+    ensures { result ≡ list_any is_out_of_memory ends.now }
 {
     ends.iter().any(|end| matches!(*end, LaneEnd::NoMemory))
 }
@@ -117,7 +114,7 @@ fn is_short(end: RoundsEnd) -> bool
     matches!(end, RoundsEnd::NoMemory)
 }
 
-// Whether memory was wanting for a worker.
+// Whether memory ran out for a worker.
 fn lacks_memory(ends: &Ends) -> bool
     ensures { result ≡ lacks_memory ends.now }
 {

@@ -22,8 +22,8 @@ mod making;
 mod opening;
 mod printing;
 mod serving;
-mod staff;
 mod top;
+mod worker_devices;
 mod world;
 mod worlds;
 
@@ -31,7 +31,7 @@ pub use command_line::{Command, LineErr, read_line};
 pub use node_rounds::Kit;
 pub use sat_console::Status;
 pub use sat_drill::Drilled;
-pub use sat_rounds::Post;
+pub use sat_sessions::Post;
 pub use sat_term::Term;
 pub use top::satellite;
 pub use world::{Ended, World};

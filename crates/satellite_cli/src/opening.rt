@@ -2,23 +2,23 @@
 ghost use Rattle.std.specs.Prelude.{◌≡◌, ◌≤◌, ◌+◌, IfOk, IfErr, vec_capacity};
 ghost use Rattle.sat_book.specs.Openings.{Opens};
 ghost use Rattle.sat_console.specs.Run.{code_of};
-ghost use Rattle.sat_term.specs.Crew.{IsBlank};
+ghost use Rattle.sat_term.specs.Workers.{IsBlank};
 ghost use Rattle.satellite_cli.specs.Serving.{NotOpened};
 
 use crate::ending::say_why;
 use sat_base::{Keeper, Link, NoMemory};
 use sat_book::Book;
 use sat_console::{Status, fault};
-use sat_term::Sheet;
+use sat_term::TermLog;
 use std::alloc::Global;
 
 /// Room for what is told of a term of so many lanes and three workers of rounds.
-pub(crate) fn sheet_for(alloc: Global, lanes: usize) -> Result<Sheet, NoMemory>
+pub(crate) fn log_for(alloc: Global, lanes: usize) -> Result<TermLog, NoMemory>
     requires { lanes ≤ 16 }
-    ensures blank { IfOk result (λ sheet. IsBlank lanes sheet) }
-    ensures room { IfOk result (λ sheet. lanes + 3 ≤ vec_capacity sheet.numbers) }
+    ensures blank { IfOk result (λ log. IsBlank lanes log) }
+    ensures room { IfOk result (λ log. lanes + 3 ≤ vec_capacity log.numbers) }
 {
-    Ok(Sheet {
+    Ok(TermLog {
         numbers: Vec::with_capacity(alloc, lanes + 3)?,
         lanes: Vec::with_capacity(alloc, lanes)?,
         ends: Vec::with_capacity(alloc, lanes)?,
@@ -29,7 +29,7 @@ pub(crate) fn sheet_for(alloc: Global, lanes: usize) -> Result<Sheet, NoMemory>
 #[derive(Drop)]
 pub(crate) struct Ready<K: Keeper> {
     pub book: Book<K>,
-    pub sheet: Sheet,
+    pub log: TermLog,
 }
 
 /// A keeper over which there is no book, and the status that says why.
@@ -50,17 +50,17 @@ pub(crate) fn open<C: Link, K: Keeper>(
     requires term { (1 ≤ term) × (term ≤ 65536) }
     requires few { lanes ≤ 16 }
     ensures opened { IfOk result (λ r. Opens K.faults K.is_clean K.is_open K.tells K.rows K.leaves keeper term r.book) }
-    ensures blank { IfOk result (λ r. IsBlank lanes r.sheet × (lanes + 3 ≤ vec_capacity r.sheet.numbers)) }
+    ensures blank { IfOk result (λ r. IsBlank lanes r.log × (lanes + 3 ≤ vec_capacity r.log.numbers)) }
     ensures quiet { IfOk result (λ r. C.about console.new ≡ C.about console.old) }
     ensures closed { IfErr result (λ r. NotOpened K.faults K.is_clean K.is_open K.tells K.rows K.leaves
         keeper r.keeper (code_of r.status) (C.about console.old) (C.about console.new)) }
 {
-    let Ok(sheet) = sheet_for(alloc, lanes) else {
+    let Ok(log) = log_for(alloc, lanes) else {
         let status = fault(console, Status::NoMemory);
         return Err(Closed { keeper, status });
     };
     match Book::open(alloc, keeper, term) {
-        Ok(book) => Ok(Ready { book, sheet }),
+        Ok(book) => Ok(Ready { book, log }),
         Err(refused) => {
             let status = say_why(alloc, console, &refused.why);
             Err(Closed {

@@ -3,18 +3,18 @@ ghost use Rattle.std.specs.Prelude.{◌≡◌, ◌⊎◌, ◌+◌, ◌≤◌, []
 ghost use Rattle.sat_book.specs.Book.{BookView, start_of};
 ghost use Rattle.sat_book.specs.Openings.{Opens};
 ghost use Rattle.sat_console.specs.Run.{code_of};
-ghost use Rattle.sat_term.specs.Crew.{IsBlank};
-ghost use Rattle.satellite_cli.specs.Serving.{IsIdle, IsTerm, NotOpened, Stands, staff_view};
+ghost use Rattle.sat_term.specs.Workers.{IsBlank};
+ghost use Rattle.satellite_cli.specs.Serving.{IsIdle, IsTerm, NotOpened, Stands, devices_view};
 
 use crate::ending::finish;
 use crate::opening::{Closed, Ready, open};
-use crate::staff::{Staff, crew_of, staff_of, tools_of};
+use crate::worker_devices::{WorkerDevices, devices_of, tools_of, workers_of};
 use order_limits::Keys;
 use sat_base::{Clock, Gate, Keeper, Lane, Link, NoMemory, Nodes, Ticks, Words};
 use sat_book::Book;
 use sat_console::{Status, fault};
-use sat_rounds::Session;
-use sat_term::{NotServed, Served, Sheet, Term, serve_term};
+use sat_sessions::Session;
+use sat_term::{NotServed, Served, Term, TermLog, serve_term};
 use std::alloc::Global;
 use std::sync::Wait;
 use std::thread::Threads;
@@ -56,11 +56,11 @@ fn keys_of<K: Keeper>(book: &Book<K>) -> Keys
 }
 
 // What happened where there was no memory for the workers: nothing.
-fn idle_term<K: Keeper>(alloc: Global, book: Book<K>, sheet: Sheet, lanes: usize) -> (K, Term)
+fn idle_term<K: Keeper>(alloc: Global, book: Book<K>, log: TermLog, lanes: usize) -> (K, Term)
     requires none { book.history ≡ [] }
     requires few { lanes ≤ 16 }
-    requires blank { IsBlank lanes sheet }
-    requires room { lanes + 3 ≤ vec_capacity sheet.numbers }
+    requires blank { IsBlank lanes log }
+    requires room { lanes + 3 ≤ vec_capacity log.numbers }
     ensures rows { result.1.opening.items ≡ book.opening.rows }
     ensures none { result.1.history.items ≡ [] }
     ensures passes { length result.1.passes.items ≡ lanes + 3 }
@@ -68,11 +68,11 @@ fn idle_term<K: Keeper>(alloc: Global, book: Book<K>, sheet: Sheet, lanes: usize
     ensures stands { Stands K.faults K.is_clean K.is_open K.tells K.rows K.leaves book result.0 result.1.history.items }
 {
     let (keeper, opening, history) = book.close();
-    let Sheet {
+    let TermLog {
         numbers,
         lanes: lists,
         ends: _,
-    } = sheet;
+    } = log;
     let term = Term {
         opening,
         history,
@@ -90,7 +90,7 @@ fn idle_term<K: Keeper>(alloc: Global, book: Book<K>, sheet: Sheet, lanes: usize
 pub(crate) struct Run<K, L, N, T, W, I> {
     pub status: Status,
     pub keeper: K,
-    pub staff: Staff<L, N, T, W, I>,
+    pub devices: WorkerDevices<L, N, T, W, I>,
     pub term: Option<Term>,
 }
 
@@ -99,25 +99,25 @@ fn idle<C: Link, K: Keeper, L, N, T, W, I>(
     alloc: Global,
     console: &mut C,
     book: Book<K>,
-    sheet: Sheet,
-    staff: Staff<L, N, T, W, I>,
+    log: TermLog,
+    devices: WorkerDevices<L, N, T, W, I>,
 ) -> Run<K, L, N, T, W, I>
     requires none { book.history ≡ [] }
-    requires few { length staff.posts.items ≤ 16 }
-    requires blank { IsBlank (length staff.posts.items) sheet }
-    requires room { length staff.posts.items + 3 ≤ vec_capacity sheet.numbers }
+    requires few { length devices.posts.items ≤ 16 }
+    requires blank { IsBlank (length devices.posts.items) log }
+    requires room { length devices.posts.items + 3 ≤ vec_capacity log.numbers }
     ensures some { IsSome result.term }
-    ensures idle { IfSome result.term (λ t. IsIdle K.faults K.is_clean K.is_open K.tells K.rows K.leaves (length staff.posts.items) book result.keeper t
+    ensures idle { IfSome result.term (λ t. IsIdle K.faults K.is_clean K.is_open K.tells K.rows K.leaves (length devices.posts.items) book result.keeper t
         (code_of result.status) (C.about console.old) (C.about console.new)) }
-    ensures staff { result.staff ≡ staff }
+    ensures devices { result.devices ≡ devices }
 {
-    let lanes = staff.posts.len();
+    let lanes = devices.posts.len();
     let status = fault(console, Status::NoMemory);
-    let (keeper, term) = idle_term(alloc, book, sheet, lanes);
+    let (keeper, term) = idle_term(alloc, book, log, lanes);
     Run {
         status,
         keeper,
-        staff,
+        devices,
         term: Some(term),
     }
 }
@@ -140,32 +140,32 @@ pub(crate) fn serve<
     term: u64,
     console: &mut C,
     keeper: K,
-    staff: Staff<L, N, T, W, I>,
+    devices: WorkerDevices<L, N, T, W, I>,
     gate: &G,
 ) -> Run<K, L, N, T, W, I>
     requires term { (1 ≤ term) × (term ≤ 65536) }
-    requires few { length staff.posts.items ≤ 16 }
+    requires few { length devices.posts.items ≤ 16 }
     ensures closed { result.term ≡ None → NotOpened K.faults K.is_clean K.is_open K.tells K.rows K.leaves
-        keeper result.keeper (code_of result.status) (C.about console.old) (C.about console.new) × (result.staff ≡ staff) }
+        keeper result.keeper (code_of result.status) (C.about console.old) (C.about console.new) × (result.devices ≡ devices) }
     ensures term { IfSome result.term (λ t. (book : BookView K) × Opens K.faults K.is_clean K.is_open K.tells K.rows K.leaves
         keeper term book
         × (IsTerm K.faults K.is_clean K.is_open K.tells K.rows K.leaves (start_of book.opening).setup.secret term book result.keeper t
         (code_of result.status) (C.about console.old) (C.about console.new)
-        (staff_view L.about T.coming W.left W.faults N.held N.asks N.faults I.about staff.posts.items staff.audit staff.repair staff.tally)
-        (staff_view L.about T.coming W.left W.faults N.held N.asks N.faults I.about result.staff.posts.items result.staff.audit result.staff.repair result.staff.tally)
-        ⊎ (IsIdle K.faults K.is_clean K.is_open K.tells K.rows K.leaves (length staff.posts.items) book result.keeper t
-        (code_of result.status) (C.about console.old) (C.about console.new) × (result.staff ≡ staff)))) }
-    ensures spare { (result.staff.tally.nodes ≡ staff.tally.nodes) × (result.staff.tally.words ≡ staff.tally.words) }
+        (devices_view L.about T.coming W.left W.faults N.held N.asks N.faults I.about devices.posts.items devices.audit devices.repair devices.tally)
+        (devices_view L.about T.coming W.left W.faults N.held N.asks N.faults I.about result.devices.posts.items result.devices.audit result.devices.repair result.devices.tally)
+        ⊎ (IsIdle K.faults K.is_clean K.is_open K.tells K.rows K.leaves (length devices.posts.items) book result.keeper t
+        (code_of result.status) (C.about console.old) (C.about console.new) × (result.devices ≡ devices)))) }
+    ensures spare { (result.devices.tally.nodes ≡ devices.tally.nodes) × (result.devices.tally.words ≡ devices.tally.words) }
 {
-    let lanes = staff.posts.len();
-    let Ready { book, sheet } = match open(alloc, console, keeper, term, lanes) {
+    let lanes = devices.posts.len();
+    let Ready { book, log } = match open(alloc, console, keeper, term, lanes) {
         Ok(ready) => ready,
         Err(closed) => {
             let Closed { keeper, status } = closed;
             return Run {
                 status,
                 keeper,
-                staff,
+                devices,
                 term: None,
             };
         }
@@ -173,14 +173,14 @@ pub(crate) fn serve<
     let keys = keys_of(&book);
     let tools = match tools_of(alloc, &book) {
         Ok(tools) => tools,
-        Err(NoMemory) => return idle(alloc, console, book, sheet, staff),
+        Err(NoMemory) => return idle(alloc, console, book, log, devices),
     };
-    let (crew, spare) = crew_of(staff, tools);
-    match serve_term(rt, alloc, book, term, &keys, crew, gate, sheet) {
+    let (workers, spare) = workers_of(devices, tools);
+    match serve_term(rt, alloc, book, term, &keys, workers, gate, log) {
         Ok(served) => {
             let Served {
                 keeper,
-                crew,
+                workers,
                 term,
                 ends,
             } = served;
@@ -188,14 +188,14 @@ pub(crate) fn serve<
             Run {
                 status,
                 keeper,
-                staff: staff_of(crew, spare),
+                devices: devices_of(workers, spare),
                 term: Some(term),
             }
         }
         Err(refused) => {
-            let NotServed { book, crew, sheet } = refused;
-            let staff = staff_of(crew, spare);
-            idle(alloc, console, book, sheet, staff)
+            let NotServed { book, workers, log } = refused;
+            let devices = devices_of(workers, spare);
+            idle(alloc, console, book, log, devices)
         }
     }
 }

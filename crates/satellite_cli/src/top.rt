@@ -12,11 +12,11 @@ ghost use Rattle.sat_console.specs.Once.{SettlesOnce};
 ghost use Rattle.sat_console.specs.Run.{NoRefusal, Ran, Says, code_of, fault_line, max_input};
 ghost use Rattle.sat_init.specs.Init.{IsMade};
 ghost use Rattle.sat_init.specs.declared.setup.Setup.{Setup};
-ghost use Rattle.sat_rounds.specs.Lanes.{post_view};
+ghost use Rattle.sat_sessions.specs.Lanes.{post_view};
 ghost use Rattle.satellite_cli.specs.Making.{Inits, IsAsked};
 ghost use Rattle.satellite_cli.specs.Drilling.{Drills};
 ghost use Rattle.satellite_cli.specs.Printing.{IsPrinted};
-ghost use Rattle.satellite_cli.specs.Serving.{AreSound, IsIdle, IsTerm, NoneRose, NotOpened, staff_view};
+ghost use Rattle.satellite_cli.specs.Serving.{AreSound, IsIdle, IsTerm, NoneRose, NotOpened, devices_view};
 
 use crate::world::{Ended, World};
 use crate::worlds::{drill_world, ended, init_world, serve_world, sheet_world};
@@ -67,7 +67,7 @@ pub fn satellite<
         Ran (IsSettleText secret cap) NoRefusal
         (C.about world.console) (C.about result.world.console) result.status }
 
-    // A short input and no fault: 0, or want of memory.
+    // A short input and no fault: 0, or out of memory.
     ensures complete { (secret : List ℕ) (cap : ℕ) (bytes : List ℕ) →
         command_of line.now ≡ Some (settle secret cap) →
         (C.about world.console).left ≡ Some bytes → length bytes ≤ max_input →
@@ -85,7 +85,7 @@ pub fn satellite<
         Ran (Judges k size) RefusesLine
         (C.about world.console) (C.about result.world.console) result.status }
 
-    // A short input and no fault: by its lines 0 or 8, or want of memory.
+    // A short input and no fault: by its lines 0 or 8, or out of memory.
     ensures judge_complete { (k size : ℕ) (bytes : List ℕ) →
         command_of line.now ≡ Some (judge k size) →
         (C.about world.console).left ≡ Some bytes → length bytes ≤ max_input →
@@ -113,7 +113,7 @@ pub fn satellite<
         ⊎ ((result.status ≡ 9) × (result.world.keeper ≡ world.keeper)
         × Says (fault_line 9) (C.about world.console) (C.about result.world.console)) }
 
-    // Over an empty store, while no count rises: 0, or want of memory.
+    // Over an empty store, while no count rises: 0, or out of memory.
     ensures init_complete { (store : NewStore) → command_of line.now ≡ Some (init store) →
         K.is_open result.world.keeper → K.tells world.keeper → AreThe (K.rows world.keeper) [] →
         (Rose (K.faults world.keeper) (K.faults result.world.keeper) → ⊥) →
@@ -133,19 +133,19 @@ pub fn satellite<
 
     // With one, the term: its history is that of one machine, of which each worker made just the entries that its sessions or
     // rounds name; the keeper has the rows of its replay; what each round asked and found; and how each worker, and the run,
-    // ended. Or memory was wanting before the workers began.
+    // ended. Or memory ran out before the workers began.
     ensures serve { (server : Server) → command_of line.now ≡ Some (serve server) →
         IfSome result.term (λ t. (book : BookView K) × Opens K.faults K.is_clean K.is_open K.tells K.rows K.leaves
         world.keeper server.term book
         × (IsTerm K.faults K.is_clean K.is_open K.tells K.rows K.leaves (start_of book.opening).setup.secret server.term book result.world.keeper t
         result.status (C.about world.console) (C.about result.world.console)
-        (staff_view L.about T.coming W.left W.faults N.held N.asks N.faults I.about world.posts.items world.audit world.repair world.tally)
-        (staff_view L.about T.coming W.left W.faults N.held N.asks N.faults I.about result.world.posts.items result.world.audit result.world.repair result.world.tally)
+        (devices_view L.about T.coming W.left W.faults N.held N.asks N.faults I.about world.posts.items world.audit world.repair world.tally)
+        (devices_view L.about T.coming W.left W.faults N.held N.asks N.faults I.about result.world.posts.items result.world.audit result.world.repair result.world.tally)
         ⊎ (IsIdle K.faults K.is_clean K.is_open K.tells K.rows K.leaves (length world.posts.items) book result.world.keeper t
         result.status (C.about world.console) (C.about result.world.console)
         × (result.world ≡ record world { console = result.world.console; keeper = result.world.keeper })))) }
 
-    // Over sound rows, while no count rises, and unless the term was full or a lane had all its sessions: 0, or want of memory.
+    // Over sound rows, while no count rises, and unless the term was full or a lane had all its sessions: 0, or out of memory.
     ensures serve_complete { (server : Server) → command_of line.now ≡ Some (serve server) →
         K.is_open result.world.keeper → K.tells world.keeper → AreSound (K.rows world.keeper) →
         (Rose (K.faults world.keeper) (K.faults result.world.keeper) → ⊥) →
@@ -163,7 +163,7 @@ pub fn satellite<
         world.keeper result.world.keeper result.status (C.about world.console) (C.about result.world.console)
         × (result.world ≡ record world { console = result.world.console; keeper = result.world.keeper }) × (result.term ≡ None) }
 
-    // Over sound rows, while no count rises, and of a month that is closed: 0, or want of memory.
+    // Over sound rows, while no count rises, and of a month that is closed: 0, or out of memory.
     ensures sheet_complete { (asked : MonthSheet) → command_of line.now ≡ Some (sheet asked) →
         K.is_open result.world.keeper → K.tells world.keeper → AreSound (K.rows world.keeper) →
         (Rose (K.faults world.keeper) (K.faults result.world.keeper) → ⊥) →
@@ -172,12 +172,12 @@ pub fn satellite<
         (result.status ≡ 0) ⊎ (result.status ≡ 9) }
 
     // `drill`: its history is that of one machine whose store never failed, and what was written grew by the text that tells of
-    // it; at status 5 by a front of that. Or memory was wanting. No other command makes one.
+    // it; at status 5 by a front of that. Or memory ran out. No other command makes one.
     ensures drill { (start calls : ℕ) → command_of line.now ≡ Some (drill start calls) →
         Drills result.status (C.about world.console) (C.about result.world.console) result.drilled }
     ensures no_drill { ((start calls : ℕ) → command_of line.now ≡ Some (drill start calls) → ⊥) → result.drilled ≡ None }
 
-    // While no count rises: 0, or want of memory.
+    // While no count rises: 0, or out of memory.
     ensures drill_complete { (start calls : ℕ) → command_of line.now ≡ Some (drill start calls) →
         (Rose (C.about world.console).write_faults (C.about result.world.console).write_faults → ⊥) →
         (result.status ≡ 0) ⊎ (result.status ≡ 9) }

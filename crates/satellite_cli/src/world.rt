@@ -2,7 +2,7 @@
 use node_rounds::Kit;
 use sat_base::Link;
 use sat_drill::Drilled;
-use sat_rounds::Post;
+use sat_sessions::Post;
 use sat_term::Term;
 
 /// The devices of a run. `init` uses the clock and the words of `audit`.

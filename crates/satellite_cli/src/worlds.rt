@@ -8,13 +8,13 @@ ghost use Rattle.sat_init.specs.Init.{IsMade};
 ghost use Rattle.satellite_cli.specs.Drilling.{Drills};
 ghost use Rattle.satellite_cli.specs.Making.{Inits};
 ghost use Rattle.satellite_cli.specs.Printing.{IsPrinted};
-ghost use Rattle.satellite_cli.specs.Serving.{IsIdle, IsTerm, NotOpened, staff_view};
+ghost use Rattle.satellite_cli.specs.Serving.{IsIdle, IsTerm, NotOpened, devices_view};
 
 use crate::drilling::{Drill, make_drill};
 use crate::making::make_store;
 use crate::printing::{Looked, print_sheet};
 use crate::serving::{Run, serve};
-use crate::staff::Staff;
+use crate::worker_devices::WorkerDevices;
 use crate::world::{Ended, World};
 use sat_base::{Clock, Gate, Keeper, Lane, Link, Month, Nodes, Ticks, Words};
 use sat_console::Status;
@@ -116,8 +116,8 @@ pub(crate) fn serve_world<
         world.keeper term book
         × (IsTerm K.faults K.is_clean K.is_open K.tells K.rows K.leaves (start_of book.opening).setup.secret term book result.world.keeper t
         result.status (C.about world.console) (C.about result.world.console)
-        (staff_view L.about T.coming W.left W.faults N.held N.asks N.faults I.about world.posts.items world.audit world.repair world.tally)
-        (staff_view L.about T.coming W.left W.faults N.held N.asks N.faults I.about result.world.posts.items result.world.audit result.world.repair result.world.tally)
+        (devices_view L.about T.coming W.left W.faults N.held N.asks N.faults I.about world.posts.items world.audit world.repair world.tally)
+        (devices_view L.about T.coming W.left W.faults N.held N.asks N.faults I.about result.world.posts.items result.world.audit result.world.repair result.world.tally)
         ⊎ (IsIdle K.faults K.is_clean K.is_open K.tells K.rows K.leaves (length world.posts.items) book result.world.keeper t
         result.status (C.about world.console) (C.about result.world.console)
         × (result.world ≡ record world { console = result.world.console; keeper = result.world.keeper })))) }
@@ -134,25 +134,25 @@ pub(crate) fn serve_world<
         tally,
         gate,
     } = world;
-    let staff = Staff {
+    let devices = WorkerDevices {
         posts,
         audit,
         repair,
         tally,
     };
-    let run = serve(rt, alloc, term, &mut console, keeper, staff, &gate);
+    let run = serve(rt, alloc, term, &mut console, keeper, devices, &gate);
     let Run {
         status,
         keeper,
-        staff,
+        devices,
         term,
     } = run;
-    let Staff {
+    let WorkerDevices {
         posts,
         audit,
         repair,
         tally,
-    } = staff;
+    } = devices;
     Ended {
         status: status.code(),
         world: World {

@@ -16,7 +16,7 @@ pub enum CommitErr {
     Repeated { index: u8 },
     /// There are fewer indexes than pieces wanted.
     TooFew { have: u8, need: u8 },
-    /// Memory for the pieces is wanting.
+    /// There is no memory for the pieces.
     NoMemory,
 }
 

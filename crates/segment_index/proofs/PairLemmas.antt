@@ -1,22 +1,15 @@
 -- What a look-up, a pair more and a pair less do to the pairs.
-use Rattle.std.proofs.Common.{◌≡◌, ℕ, ◌^◌, ◌<◌, ◌≤◌, Bool, true, false, not, ◌&&◌, ◌||◌, List, [], ◌∷◌, Option, Some, None, is_some, IsSome, ◌⊎◌, inl, inr, Bor, option_copied, refl, sym, ap, subst, ◌∙◌, arith}
+use Rattle.std.proofs.Common.{◌≡◌, ℕ, ◌^◌, ◌<◌, ◌≤◌, true, false, not, ◌&&◌, ◌||◌, List, [], ◌∷◌, Option, Some, None, is_some, IsSome, inl, inr, Bor, option_copied, refl, sym, ap, subst, ◌∙◌, arith}
 use Rattle.std.specs.Prelude.{◌==◌, slice_get}
 use Rattle.std.proofs.lemmas.Bool.Decides.{nat_tests}
 use Rattle.rows.specs.Rows.{row_at, first_above, without, AllAbove, IsRising}
 use Rattle.std.specs.List.{list_any}
+use Rattle.std.proofs.lemmas.Bool.{or_cases, false_from_ne_true}
 use Rattle.rows.specs.Slots.{Slots, has_slot, with_row, without_slot, released}
 use Rattle.segment_index.specs.declared.pairs.Pair.{Pair}
 use Rattle.segment_index.specs.Pairs.{pair_rank, is_same, has, AreWithin, IsNoLater, IsFirst, IsNext}
 
 -- ---- one pair and another
-
-pub either : (b c : Bool) → (b || c) ≡ true → (b ≡ true) ⊎ (c ≡ true)
-either true c h = inl refl
-either false c h = inr h
-
-is_false : (b : Bool) → (b ≡ true → ⊥) → b ≡ false
-is_false true never = absurd (never refl)
-is_false false never = refl
 
 -- the ranks are equal exactly where the pairs are
 rank_test : (a b : Pair) → a.low < 2 ^ 64 → b.low < 2 ^ 64 → (pair_rank a == pair_rank b) ≡ is_same a b
@@ -78,14 +71,14 @@ none_found (Some x) h = cc
 
 above_has : (rows : List Pair) (n : ℕ) (q : Pair) → AllAbove pair_rank n rows → has rows q ≡ true → n < pair_rank q
 above_has [] n q above h = absurd cc
-above_has (first ∷ rest) n q above h = elim (either (is_same first q) (has rest q) h) [
+above_has (first ∷ rest) n q above h = elim (or_cases (is_same first q) (has rest q) h) [
   | inl same ↦ rw (← same_rank first q same) above.0
   | inr behind ↦ above_has rest n q above.1 behind
 ]
 
 within_has : (rows : List Pair) (q : Pair) → AreWithin rows → has rows q ≡ true → q.low < 2 ^ 64
 within_has [] q within h = absurd cc
-within_has (first ∷ rest) q within h = elim (either (is_same first q) (has rest q) h) [
+within_has (first ∷ rest) q within h = elim (or_cases (is_same first q) (has rest q) h) [
   | inl same ↦ rw (← same_low first q same) within.0
   | inr behind ↦ within_has rest q within.1 behind
 ]
@@ -94,7 +87,7 @@ pub first_is : (rows : List Pair) → IsRising pair_rank rows → AreWithin rows
 first_is [] rising within = λ other. refl
 first_is (p ∷ rest) rising within = (
   grind (arith, nat_tests, same_self p),
-  λ other h. elim (either (is_same p other) (has rest other) h) [
+  λ other h. elim (or_cases (is_same p other) (has rest other) h) [
     | inl same ↦ (omega (arith, same_high p other same), λ e. omega (arith, same_low p other same))
     | inr behind ↦ rank_order p other within.0 (within_has rest other within.1 behind) (above_has rest (pair_rank p) other rising.0 behind)
   ],
@@ -130,7 +123,7 @@ module _ (rows : List Pair) (high bound : ℕ) (rising : IsRising pair_rank rows
   behind low lt = omega (arith, lt)
 
   pub none_next : first_above pair_rank rows (pair_rank from) ≡ None → IsNext rows high bound None
-  none_next none low lt = is_false (has rows (record { high = high; low = low })) (λ h. next_none rows (pair_rank from) (record { high = high; low = low }) none h (behind low lt))
+  none_next none low lt = false_from_ne_true (has rows (record { high = high; low = low })) (λ h. next_none rows (pair_rank from) (record { high = high; low = low }) none h (behind low lt))
 
   -- a pair between two with one first number has it too
   between : (r : Pair) (low : ℕ) → r.low < 2 ^ 64 → low < 2 ^ 64 → pair_rank from < pair_rank r → pair_rank r ≤ pair_rank (record { high = high; low = low }) → r.high ≡ high
@@ -138,7 +131,7 @@ module _ (rows : List Pair) (high bound : ℕ) (rising : IsRising pair_rank rows
   between r low lr ll after until = omega (arith, after, until)
 
   pub other_next : (r : Pair) → first_above pair_rank rows (pair_rank from) ≡ Some r → (r.high ≡ high → ⊥) → IsNext rows high bound None
-  other_next r is other low lt = is_false (has rows (record { high = high; low = low })) (λ h.
+  other_next r is other low lt = false_from_ne_true (has rows (record { high = high; low = low })) (λ h.
       other (between r low (within_has rows r within (next_has rows (pair_rank from) r is)) (within_has rows (record { high = high; low = low }) within h)
       (next_behind rows (pair_rank from) r is) (next_least rows (pair_rank from) (record { high = high; low = low }) r rising is h (behind low lt))))
 

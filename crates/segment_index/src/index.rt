@@ -114,7 +114,7 @@ impl SegmentIndex {
         self.segments.get(u128::from(id.0))
     }
 
-    /// Makes room for all that putting a segment takes. Want of memory leaves segments and nodes as they were.
+    /// Makes room for all that putting a segment takes. Running out of memory leaves segments and nodes as they were.
     pub fn place(&mut self, segment: &Segment) -> Result<(), NoMemory>
         ensures same { self.new ≡ record self.old { room = self.new.room } }
         ensures placed { OnOk result (IsPlaced self.new segment.now) }

@@ -9,7 +9,7 @@ use crate::refreshing::{count_all, place_counts};
 use sat_base::{NoMemory, NodeId};
 
 impl SegmentIndex {
-    /// Makes room for so many nodes that stop serving. Want of memory leaves all as it was.
+    /// Makes room for so many nodes that stop serving. Running out of memory leaves all as it was.
     pub fn place_loss(&mut self, nodes: usize) -> Result<(), NoMemory>
         ensures same { self.new ≡ record self.old { room = record self.old.room { lost = self.new.room.lost } } }
         ensures ok { OnOk result (nodes ≤ self.new.room.lost) }

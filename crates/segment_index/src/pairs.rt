@@ -83,7 +83,7 @@ impl PairSet {
         }
     }
 
-    /// Makes a slot for a pair, if it has none. Want of memory leaves pairs and slots as they were.
+    /// Makes a slot for a pair, if it has none. Running out of memory leaves pairs and slots as they were.
     pub fn place(&mut self, pair: Pair) -> Result<(), NoMemory>
         ensures pairs { self.new.rows ≡ self.old.rows }
         ensures placed { OnOk result (has_slot self.new (pair_rank pair) ≡ true) }

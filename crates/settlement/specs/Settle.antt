@@ -64,7 +64,7 @@ rows_after (Ok (may.New r)) rows = added r rows
 rows_after (Ok (may.Again a)) rows = rows
 rows_after (Err e) rows = rows
 
--- P, unless memory was wanting
+-- P, unless memory ran out
 abbrev pub UnlessMemory : Result Settling SettleErr → Type 0 → Type 0
 UnlessMemory (Ok s) P = P
 UnlessMemory (Err no.NoMemory) P = Unit {0}

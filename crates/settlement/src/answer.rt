@@ -46,7 +46,7 @@ pub enum SettleErr {
     OverLimit { limit: u64 },
     /// The rows number the cap.
     SettledFull { cap: u32 },
-    /// Memory for the row is wanting.
+    /// There is no memory for the row.
     NoMemory,
 }
 

@@ -79,7 +79,7 @@ impl Settled {
         }
     }
 
-    /// Makes room for one more row. Want of memory leaves the rows as they were.
+    /// Makes room for one more row. Running out of memory leaves the rows as they were.
     pub fn reserve(&mut self) -> Result<(), NoMemory>
         ensures ok { OnOk result (1 ≤ self.new.spare) }
         ensures rows { self.new.rows ≡ self.old.rows }

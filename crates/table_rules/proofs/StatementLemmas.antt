@@ -1,5 +1,5 @@
 -- What the pass over the statements is to know of the rows.
-use Rattle.std.proofs.Common.{◌≡◌, ℕ, zero, suc, ◌^◌, ◌<◌, List, [], ◌∷◌, map, Some, refl, ap, subst, ◌∙◌}
+use Rattle.std.proofs.Common.{◌≡◌, ℕ, zero, suc, ◌^◌, ◌<◌, List, [], ◌∷◌, map, Some, refl, ap, ◌∙◌}
 use Rattle.std.specs.Prelude.{slice_get}
 use Rattle.rows.specs.Rows.{Each}
 use Rattle.sat_base.specs.declared.settings.Settings.{Settings}
@@ -14,16 +14,12 @@ use Rattle.month_sums.specs.declared.sums.OpenSums.{OpenSums}
 use Rattle.month_sums.specs.Open.{sums_at}
 use Rattle.month_sums.specs.Opening.{GoByAll}
 use Rattle.table_rules.specs.Statements.{IsLedgerOf}
+use Rattle.month_sums.proofs.Ready.{each-got}
 
 got-map : {X Y : Type 0} (f : X → Y) (xs : List X) (i : ℕ) (x : X) → slice_get xs i ≡ Some x → slice_get (map f xs) i ≡ Some (f x)
 got-map f [] i x got = absurd cc
 got-map {X} {Y} f (y ∷ ys) zero x got = let same : y ≡ x = cc in ap (λ (z : X). Some (f z)) same
 got-map f (y ∷ ys) (suc i) x got = got-map f ys i x got
-
-got-each : {X : Type 0} (P : X → Type 0) (xs : List X) (i : ℕ) (x : X) → Each P xs → slice_get xs i ≡ Some x → P x
-got-each P [] i x each got = absurd cc
-got-each P (y ∷ ys) zero x each got = let same : y ≡ x = cc in subst P same each.0
-got-each P (y ∷ ys) (suc i) x each got = got-each P ys i x each.1 got
 
 pub by_all : (l : Ledger) (settings : Settings) (marks : Marks) (nodes : List Node) (rows : List Statement) (kept : List OpenSums) (left : List Left) (tariffs : List Tariff) (sums : List Sums)
     → IsLedgerOf l settings marks nodes rows kept left tariffs → sums ≡ map (λ s. sums_at kept s.month.0 s.node) rows → Each (λ s. s.node.0 < 2 ^ 32) rows
@@ -34,7 +30,7 @@ by_all l settings marks nodes rows kept left tariffs sums is are low = record {
   nodes_are = is.nodes_are;
   rows_are = is.rows_are;
   sums_are = λ i s got. ap (λ (xs : List Sums). slice_get xs i) are ∙ (got-map (λ (x : Statement). sums_at kept x.month.0 x.node) rows i s got
-      ∙ ap (λ (x : Sums). Some x) (is.sums s.node s.month.0 (got-each (λ (x : Statement). x.node.0 < 2 ^ 32) rows i s low got) refl));
+      ∙ ap (λ (x : Sums). Some x) (is.sums s.node s.month.0 (each-got (λ (x : Statement). x.node.0 < 2 ^ 32) rows i s low got) refl));
   left_is = is.left_is;
   tariffs_are = is.tariffs_are;
   fit = is.fit;

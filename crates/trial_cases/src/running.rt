@@ -1,14 +1,16 @@
 // One round at a desk of its own.
-ghost use Rattle.std.specs.Prelude.{◌≡◌, ◌≤◌, IsSome, IsSomeAnd};
+ghost use Rattle.std.specs.Prelude.{◌≡◌, ◌≤◌, [], IsSome, IsSomeAnd};
+ghost use Rattle.machine_calls.specs.declared.call.Call.{Call};
+ghost use Rattle.machine_calls.specs.declared.wish.Wish.{Wish};
 ghost use Rattle.turnstile.specs.Known.{SameRights};
 ghost use Rattle.node_rounds.specs.Askable.{IsStoreOf};
 
 use bw_decode::Scratch;
-use machine_calls::Call;
-use node_rounds::{Kit, Store, TallyKit, audit_round, repair_round, tally_round};
-use sat_base::{Gate, KeeperMem, MemClock, MemNodes, MemTicks, MemWords, OpenGate};
+use machine_calls::{Call, Wish};
+use node_rounds::{Kit, RoundStore, TallyKit, audit_round, repair_round, tally_round};
+use sat_base::{Gate, KeeperMem, MemClock, MemNodes, MemTicks, MemWords, Moment, OpenGate};
 use sat_book::{Book, Entry};
-use sat_rounds::{BookPass, Round};
+use sat_sessions::{BookPass, Round};
 use std::alloc::Global;
 use std::mem;
 use std::sync::Wait;
@@ -43,9 +45,17 @@ pub struct Ran {
     pub history: Vec<Entry>,
 }
 
+// The call that stops the machine.
+fn stopping(alloc: Global) -> Call
+    ensures { result ≡ Call.Asked 0 [] Wish.Stop }
+{
+    Call::of_wish(alloc, Moment::of(0), Wish::Stop)
+}
+
 // Stops the machine, where it is to stop.
 fn stop_at<R: Wait>(
     rt: &R,
+    alloc: Global,
     desk: &Desk<Book<KeeperMem>>,
     pass: BookPass<KeeperMem>,
     stops: bool,
@@ -57,7 +67,7 @@ fn stop_at<R: Wait>(
     if !stops {
         return pass;
     }
-    match desk.enter(rt, pass, Call::Stop) {
+    match desk.enter(rt, pass, stopping(alloc)) {
         Turned::Done(pass, _) => pass,
         Turned::TermFull(pass, _) => pass,
     }
@@ -89,7 +99,7 @@ fn round_at<R: Wait>(
     alloc: Global,
     desk: &Desk<Book<KeeperMem>>,
     pass: BookPass<KeeperMem>,
-    store: &Store,
+    store: &RoundStore,
     scratch: &mut Scratch,
     which: Which,
     kit: &mut MemKit,
@@ -122,12 +132,12 @@ pub fn run<R: Wait>(
     let Ok(book) = Book::open(alloc, keeper, term) else {
         return Err(LineErr::Bad);
     };
-    let store = Store::of(&book);
+    let store = RoundStore::of(&book);
     let mut scratch = Scratch::new(alloc, &store.scheme)?;
     let Ok((desk, pass)) = Desk::new(alloc, book, term) else {
         return Err(LineErr::NoMemory);
     };
-    let pass = stop_at(rt, &desk, pass, stops);
+    let pass = stop_at(rt, alloc, &desk, pass, stops);
     let mut kit = kit;
     let (pass, round) = round_at(
         rt,

@@ -3,7 +3,7 @@ use crate::running::Ran;
 use machine_calls::Reply;
 use sat_base::{Ask, Held, NoMemory};
 use sat_book::Entry;
-use sat_rounds::{Round, RoundEnd};
+use sat_sessions::{Round, RoundEnd};
 use std::alloc::Global;
 use trial_lines::told_reply;
 

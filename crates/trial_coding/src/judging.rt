@@ -1,6 +1,6 @@
 // Verdicts on answers of one byte.
 ghost use Rattle.std.specs.Prelude.{◌≡◌, false, length, All, IfOk};
-ghost use Rattle.audit_core.specs.Heard.{heard_indexes, is_wanting, place_indexes};
+ghost use Rattle.audit_core.specs.Heard.{heard_indexes, is_out_of_memory, place_indexes};
 
 use crate::repairs::places;
 use crate::schemes::scheme;
@@ -20,7 +20,7 @@ enum Answer {
 }
 
 fn fetched(alloc: Global, answer: Answer) -> Result<Fetched, NoMemory>
-    ensures { IfOk result (λ what. is_wanting what ≡ false) }
+    ensures { IfOk result (λ what. is_out_of_memory what ≡ false) }
 {
     match answer {
         Answer::Byte(byte) => Ok(Fetched::Share(Items::of(vec![in alloc; byte]?))),
@@ -33,7 +33,7 @@ fn fetched(alloc: Global, answer: Answer) -> Result<Fetched, NoMemory>
 fn heard(alloc: Global, indexes: &[u8], answers: &[Answer]) -> Result<Vec<Heard>, NoMemory>
     requires { length indexes.now ≡ length answers.now }
     ensures indexes { IfOk result (λ heard. heard_indexes heard.items ≡ indexes.now) }
-    ensures answered { IfOk result (λ heard. All (λ one. is_wanting one.what ≡ false) heard.items) }
+    ensures answered { IfOk result (λ heard. All (λ one. is_out_of_memory one.what ≡ false) heard.items) }
 {
     let mut heard = Vec::new(alloc);
     for (i, index) in indexes.iter().enumerate() {

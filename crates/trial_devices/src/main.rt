@@ -7,6 +7,7 @@
 //! - `connections`: an exchange, clients that close, addresses, a taken port, a lane in a thread.
 //! - `endings`: unread bytes, a client that stays, one that resets.
 //! - `crowds`: silent clients, many requests at once, an answer that isn't read.
+//! - `rooms`: bodies as long as a lane has room for, and a lane that has no more.
 //! - `services`: a store that is lost, lanes that are shut, and what ends with them.
 //! - `machine`: words, moments and ticks of the system, and of one that fails or jumps when it is told to.
 //!
@@ -19,6 +20,7 @@ mod console;
 mod crowds;
 mod endings;
 mod machine;
+mod rooms;
 mod scripted;
 mod services;
 
@@ -33,6 +35,8 @@ fn main(rt: HostRuntime) -> Result<()> {
     endings::unread(&rt)?;
     endings::stays(&rt)?;
     endings::reset(&rt)?;
+    rooms::bodies(&rt)?;
+    rooms::full(&rt)?;
     crowds::silence(&rt, &rt)?;
     crowds::burst(&rt, &rt)?;
     crowds::unread_answer(&rt, &rt)?;

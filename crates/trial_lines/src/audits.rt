@@ -1,6 +1,6 @@
 // Audits and rechecks, with what the nodes gave.
 ghost use Rattle.std.specs.Prelude.{◌≡◌, false, All, IfOk};
-ghost use Rattle.audit_core.specs.Heard.{heard_indexes, is_wanting, place_indexes};
+ghost use Rattle.audit_core.specs.Heard.{heard_indexes, is_out_of_memory, place_indexes};
 ghost use Rattle.machine_step.specs.Step.{IsSchemeOf, IsWellFormed};
 ghost use Rattle.machine_step.specs.Tables.{Tables};
 
@@ -9,7 +9,7 @@ use crate::plans::{audit_plan, recheck_plan};
 use crate::requests::words;
 use audit_core::{Checked, Heard, judge};
 use bw_decode::Scratch;
-use machine_calls::Call;
+use machine_calls::{Call, Task};
 use sat_base::{At, Fetched, Items, Moment, Scheme};
 use std::alloc::Global;
 use trial_indexes::{are_rising, indexes_of};
@@ -21,12 +21,15 @@ pub(crate) fn plan_audit(alloc: Global, fields: &mut Fields<'_>) -> Result<Call,
     let now = Moment::of(fields.number()?);
     let words = words(alloc, 2, fields)?;
     fields.end()?;
-    Ok(Call::PlanAudit { now, words })
+    Ok(Call::Own {
+        now,
+        task: Task::PlanAudit { words },
+    })
 }
 
 // A share in hexadecimal digits, `missing` or `silent`.
 fn answer(alloc: Global, list: &mut Fields<'_>) -> Result<Fetched, LineErr>
-    ensures { IfOk result (λ what. is_wanting what ≡ false) }
+    ensures { IfOk result (λ what. is_out_of_memory what ≡ false) }
 {
     let mut ahead = *list;
     let what = match ahead.word()? {
@@ -41,7 +44,7 @@ fn answer(alloc: Global, list: &mut Fields<'_>) -> Result<Fetched, LineErr>
 // What is heard of each piece, in order.
 fn read_heard(alloc: Global, pieces: &[At], fields: &mut Fields<'_>) -> Result<Vec<Heard>, LineErr>
     ensures indexes { IfOk result (λ heard. heard_indexes heard.items ≡ place_indexes pieces.now) }
-    ensures told { IfOk result (λ heard. All (λ one. is_wanting one.what ≡ false) heard.items) }
+    ensures told { IfOk result (λ heard. All (λ one. is_out_of_memory one.what ≡ false) heard.items) }
 {
     let mut list = fields.list()?;
     let mut heard = Vec::new(alloc);
@@ -74,7 +77,10 @@ pub(crate) fn end_audit(
     fields.end()?;
     let mut scratch = Scratch::new(alloc, scheme)?;
     match judge(alloc, &mut scratch, scheme, plan, heard) {
-        Ok(judged) => Ok(Call::EndAudit { now, judged }),
+        Ok(judged) => Ok(Call::Own {
+            now,
+            task: Task::EndAudit { judged },
+        }),
         Err(_) => Err(LineErr::NoMemory),
     }
 }
@@ -85,7 +91,10 @@ pub(crate) fn plan_recheck(fields: &mut Fields<'_>) -> Result<Call, LineErr>
 {
     let now = Moment::of(fields.number()?);
     fields.end()?;
-    Ok(Call::PlanRecheck { now })
+    Ok(Call::Own {
+        now,
+        task: Task::PlanRecheck,
+    })
 }
 
 // NOW, the plan, and `pass`, `fail` or `silent`.
@@ -101,5 +110,8 @@ pub(crate) fn end_recheck(fields: &mut Fields<'_>) -> Result<Call, LineErr>
         _ => return Err(LineErr::Bad),
     };
     fields.end()?;
-    Ok(Call::EndRecheck { now, plan, checked })
+    Ok(Call::Own {
+        now,
+        task: Task::EndRecheck { plan, checked },
+    })
 }

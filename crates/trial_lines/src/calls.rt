@@ -7,7 +7,7 @@ use crate::audits::{end_audit, end_recheck, plan_audit, plan_recheck};
 use crate::fields::{Fields, LineErr};
 use crate::repairs::{end_exit, end_repair, plan_exit, plan_repair};
 use crate::requests::request;
-use machine_calls::Call;
+use machine_calls::{Call, Task};
 use order_limits::Keys;
 use sat_base::{Moment, Scheme};
 use std::alloc::Global;
@@ -25,7 +25,10 @@ fn tally_hour(fields: &mut Fields<'_>) -> Result<Call, LineErr>
 {
     let now = Moment::of(fields.number()?);
     fields.end()?;
-    Ok(Call::TallyHour { now })
+    Ok(Call::Own {
+        now,
+        task: Task::TallyHour,
+    })
 }
 
 /// The call that a line says, of a store with these keys and this scheme.

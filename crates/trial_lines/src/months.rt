@@ -4,45 +4,45 @@ ghost use Rattle.machine_step.specs.Step.{IsAsked};
 
 use crate::fields::{Fields, LineErr};
 use crate::requests::moment;
-use machine_calls::Call;
-use sat_base::{Month, NoMemory, NodeId, Rates};
+use machine_calls::{Call, Wish};
+use sat_base::{Moment, Month, NoMemory, NodeId, Rates};
 use std::alloc::Global;
 use tally_payout::Statement;
 
 // A call on months or rates, whose name was read.
-pub(crate) fn on_months(name: &str, fields: &mut Fields<'_>) -> Result<Call, LineErr>
+pub(crate) fn on_months(alloc: Global, name: &str, fields: &mut Fields<'_>) -> Result<Call, LineErr>
     ensures { IfOk result IsAsked }
 {
     match name {
-        "statement" => statement(fields),
-        "close-month" => close_month(fields),
-        "set-rates" => set_rates(fields),
+        "statement" => statement(alloc, fields),
+        "close-month" => close_month(alloc, fields),
+        "set-rates" => set_rates(alloc, fields),
         _ => Err(LineErr::Bad),
     }
 }
 
 // NODE MONTH.
-fn statement(fields: &mut Fields<'_>) -> Result<Call, LineErr>
+fn statement(alloc: Global, fields: &mut Fields<'_>) -> Result<Call, LineErr>
     ensures { IfOk result IsAsked }
 {
-    Ok(Call::Statement {
+    let wish = Wish::Statement {
         node: NodeId(fields.number()?),
         month: Month(fields.number()?),
-    })
+    };
+    Ok(Call::of_wish(alloc, Moment::of(0), wish))
 }
 
 // NOW MONTH.
-fn close_month(fields: &mut Fields<'_>) -> Result<Call, LineErr>
+fn close_month(alloc: Global, fields: &mut Fields<'_>) -> Result<Call, LineErr>
     ensures { IfOk result IsAsked }
 {
-    Ok(Call::CloseMonth {
-        now: moment(fields)?,
-        month: Month(fields.number()?),
-    })
+    let now = moment(fields)?;
+    let month = Month(fields.number()?);
+    Ok(Call::of_wish(alloc, now, Wish::CloseMonth { month }))
 }
 
 // NOW MONTH, the rates. A month or a rate out of bounds is no call.
-fn set_rates(fields: &mut Fields<'_>) -> Result<Call, LineErr>
+fn set_rates(alloc: Global, fields: &mut Fields<'_>) -> Result<Call, LineErr>
     ensures { IfOk result IsAsked }
 {
     let now = moment(fields)?;
@@ -51,7 +51,7 @@ fn set_rates(fields: &mut Fields<'_>) -> Result<Call, LineErr>
     if !month.is_within() || !rates.are_within() {
         return Err(LineErr::Bad);
     }
-    Ok(Call::SetRates { now, month, rates })
+    Ok(Call::of_wish(alloc, now, Wish::SetRates { month, rates }))
 }
 
 // GET AUDIT REPAIR STORAGE.

@@ -8,7 +8,7 @@ ghost use Rattle.repair_core.specs.Indexes.{has_index};
 use crate::fields::{Fields, LineErr};
 use crate::plans::repair_plan;
 use crate::requests::words;
-use machine_calls::Call;
+use machine_calls::{Call, Task};
 use node_asks::conclude;
 use repair_core::{RepairOutcome, RepairPlan};
 use sat_base::{Indexes, Items, Moment, Scheme};
@@ -22,7 +22,10 @@ pub(crate) fn plan_repair(alloc: Global, fields: &mut Fields<'_>) -> Result<Call
     let now = Moment::of(fields.number()?);
     let words = words(alloc, 128, fields)?;
     fields.end()?;
-    Ok(Call::PlanRepair { now, words })
+    Ok(Call::Own {
+        now,
+        task: Task::PlanRepair { words },
+    })
 }
 
 // NOW WORDS, of which there are 128.
@@ -32,7 +35,10 @@ pub(crate) fn plan_exit(alloc: Global, fields: &mut Fields<'_>) -> Result<Call, 
     let now = Moment::of(fields.number()?);
     let words = words(alloc, 128, fields)?;
     fields.end()?;
-    Ok(Call::PlanExit { now, words })
+    Ok(Call::Own {
+        now,
+        task: Task::PlanExit { words },
+    })
 }
 
 // What is told of a repair: the sources that answered in every window, that were altered and that hold no piece, and the
@@ -132,7 +138,10 @@ pub(crate) fn end_repair(
     let now = Moment::of(fields.number()?);
     let outcome = ended(alloc, scheme, fields)?;
     fields.end()?;
-    Ok(Call::EndRepair { now, outcome })
+    Ok(Call::Own {
+        now,
+        task: Task::EndRepair { outcome },
+    })
 }
 
 // The same, of an exit's repair.
@@ -146,5 +155,8 @@ pub(crate) fn end_exit(
     let now = Moment::of(fields.number()?);
     let outcome = ended(alloc, scheme, fields)?;
     fields.end()?;
-    Ok(Call::EndExit { now, outcome })
+    Ok(Call::Own {
+        now,
+        task: Task::EndExit { outcome },
+    })
 }

@@ -5,7 +5,7 @@ ghost use Rattle.machine_step.specs.Step.{IsAsked};
 use crate::fields::{Fields, LineErr};
 use crate::months::on_months;
 use crate::orders::order;
-use machine_calls::{Call, are_bytes};
+use machine_calls::{Call, Wish, are_bytes};
 use order_limits::Keys;
 use sat_base::{CustomerId, Items, Moment, NodeId, SegId, Words64};
 use std::alloc::Global;
@@ -33,17 +33,17 @@ fn first_request(alloc: Global, keys: &Keys, fields: &mut Fields<'_>) -> Result<
     ensures { IfOk result IsAsked }
 {
     match fields.word()? {
-        "add-node" => add_node(fields),
-        "add-customer" => add_customer(fields),
+        "add-node" => add_node(alloc, fields),
+        "add-customer" => add_customer(alloc, fields),
         "begin" => begin(alloc, fields),
         "commit" => commit(alloc, fields),
-        "get" => get(fields),
-        "delete" => delete(fields),
+        "get" => get(alloc, fields),
+        "delete" => delete(alloc, fields),
         "settle" => settle(alloc, keys, fields),
-        "set-free" => set_free(fields),
-        "exit" => exit(fields),
-        "stop" => Ok(Call::Stop),
-        word => on_months(word, fields),
+        "set-free" => set_free(alloc, fields),
+        "exit" => exit(alloc, fields),
+        "stop" => Ok(Call::of_wish(alloc, Moment::of(0), Wish::Stop)),
+        word => on_months(alloc, word, fields),
     }
 }
 
@@ -52,39 +52,42 @@ pub(crate) fn moment(fields: &mut Fields<'_>) -> Result<Moment, LineErr> {
 }
 
 // NOW REQUEST ADDR PORT FREE.
-fn add_node(fields: &mut Fields<'_>) -> Result<Call, LineErr>
+fn add_node(alloc: Global, fields: &mut Fields<'_>) -> Result<Call, LineErr>
     ensures { IfOk result IsAsked }
 {
-    Ok(Call::AddNode {
-        now: moment(fields)?,
+    let now = moment(fields)?;
+    let wish = Wish::AddNode {
         request: fields.number()?,
         addr: fields.number()?,
         port: fields.number()?,
         free: fields.number()?,
-    })
+    };
+    Ok(Call::of_wish(alloc, now, wish))
 }
 
 // NOW REQUEST.
-fn add_customer(fields: &mut Fields<'_>) -> Result<Call, LineErr>
+fn add_customer(alloc: Global, fields: &mut Fields<'_>) -> Result<Call, LineErr>
     ensures { IfOk result IsAsked }
 {
-    Ok(Call::AddCustomer {
-        now: moment(fields)?,
+    let now = moment(fields)?;
+    let wish = Wish::AddCustomer {
         request: fields.number()?,
-    })
+    };
+    Ok(Call::of_wish(alloc, now, wish))
 }
 
 // NOW CUSTOMER REQUEST LEN WORDS.
 fn begin(alloc: Global, fields: &mut Fields<'_>) -> Result<Call, LineErr>
     ensures { IfOk result IsAsked }
 {
-    Ok(Call::Begin {
-        now: moment(fields)?,
+    let now = moment(fields)?;
+    let wish = Wish::Begin {
         customer: CustomerId(fields.number()?),
         request: fields.number()?,
         len: fields.number()?,
-        words: words(alloc, 128, fields)?,
-    })
+    };
+    let words = words(alloc, 128, fields)?;
+    Ok(Call::Asked { now, words, wish })
 }
 
 // So many words, by a generator from a start, `from START`, or as a list of numbers that come round again.
@@ -121,37 +124,40 @@ pub(crate) fn words(
 fn commit(alloc: Global, fields: &mut Fields<'_>) -> Result<Call, LineErr>
     ensures { IfOk result IsAsked }
 {
-    Ok(Call::Commit {
-        now: moment(fields)?,
+    let now = moment(fields)?;
+    let wish = Wish::Commit {
         customer: CustomerId(fields.number()?),
         request: fields.number()?,
         segment: SegId(fields.number()?),
         indexes: Items::of(fields.numbers(alloc)?),
-    })
+    };
+    Ok(Call::of_wish(alloc, now, wish))
 }
 
 // NOW CUSTOMER REQUEST SEGMENT.
-fn get(fields: &mut Fields<'_>) -> Result<Call, LineErr>
+fn get(alloc: Global, fields: &mut Fields<'_>) -> Result<Call, LineErr>
     ensures { IfOk result IsAsked }
 {
-    Ok(Call::Get {
-        now: moment(fields)?,
+    let now = moment(fields)?;
+    let wish = Wish::Get {
         customer: CustomerId(fields.number()?),
         request: fields.number()?,
         segment: SegId(fields.number()?),
-    })
+    };
+    Ok(Call::of_wish(alloc, now, wish))
 }
 
 // NOW CUSTOMER REQUEST SEGMENT.
-fn delete(fields: &mut Fields<'_>) -> Result<Call, LineErr>
+fn delete(alloc: Global, fields: &mut Fields<'_>) -> Result<Call, LineErr>
     ensures { IfOk result IsAsked }
 {
-    Ok(Call::Delete {
-        now: moment(fields)?,
+    let now = moment(fields)?;
+    let wish = Wish::Delete {
         customer: CustomerId(fields.number()?),
         request: fields.number()?,
         segment: SegId(fields.number()?),
-    })
+    };
+    Ok(Call::of_wish(alloc, now, wish))
 }
 
 // NOW NODE ORDER.
@@ -162,26 +168,28 @@ fn settle(alloc: Global, keys: &Keys, fields: &mut Fields<'_>) -> Result<Call, L
     let node = NodeId(fields.number()?);
     let bytes = Items::of(order(alloc, keys, fields)?);
     are_bytes(bytes.as_slice());
-    Ok(Call::Settle { now, node, bytes })
+    Ok(Call::of_wish(alloc, now, Wish::Settle { node, bytes }))
 }
 
 // NOW NODE FREE.
-fn set_free(fields: &mut Fields<'_>) -> Result<Call, LineErr>
+fn set_free(alloc: Global, fields: &mut Fields<'_>) -> Result<Call, LineErr>
     ensures { IfOk result IsAsked }
 {
-    Ok(Call::SetFree {
-        now: moment(fields)?,
+    let now = moment(fields)?;
+    let wish = Wish::SetFree {
         node: NodeId(fields.number()?),
         free: fields.number()?,
-    })
+    };
+    Ok(Call::of_wish(alloc, now, wish))
 }
 
 // NOW NODE.
-fn exit(fields: &mut Fields<'_>) -> Result<Call, LineErr>
+fn exit(alloc: Global, fields: &mut Fields<'_>) -> Result<Call, LineErr>
     ensures { IfOk result IsAsked }
 {
-    Ok(Call::Exit {
-        now: moment(fields)?,
+    let now = moment(fields)?;
+    let wish = Wish::Exit {
         node: NodeId(fields.number()?),
-    })
+    };
+    Ok(Call::of_wish(alloc, now, wish))
 }

@@ -1,7 +1,7 @@
 // What a run came to, as lines.
 use crate::lane::TrialLane;
 use sat_base::{MemClock, MemWords};
-use sat_rounds::{Round, RoundEnd, Session, SessionEnd};
+use sat_sessions::{Round, RoundEnd, Session, SessionEnd};
 use satellite_cli::{Post, Term};
 use std::alloc::Global;
 use trial_lines::{LineErr, text_of};

@@ -47,3 +47,5 @@ mod sorted_rows;
 mod statements;
 #[cfg(test)]
 mod thousand;
+#[cfg(test)]
+mod uses;

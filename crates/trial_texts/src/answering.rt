@@ -3,7 +3,8 @@ ghost use Rattle.std.specs.Prelude.{◌≡◌, true, IfOk};
 ghost use Rattle.machine_calls.specs.Replies.{is_sayable};
 
 use crate::done::done;
-use http_edge::{EdgeErr, Sent, answer, edge_answer, memory_answer, send};
+use http_edge::{EdgeErr, answer, edge_answer, memory_answer};
+use http_parts::{Sent, send};
 use machine_calls::{Refusal, Reply, TableName};
 use order_limits::Keys;
 use sat_base::{Hour, MemConsole, Month, NodeId};
@@ -145,7 +146,7 @@ pub fn edge_bytes(alloc: Global, fields: &mut Fields<'_>) -> Result<Vec<u8>, Lin
     Ok(edge_answer(alloc, &error)?.into_vec())
 }
 
-/// Sends the answer that memory is wanting, where the calls of these numbers fail: whether all was sent, and the bytes
+/// Sends the answer that memory runs out, where the calls of these numbers fail: whether all was sent, and the bytes
 /// that were written.
 pub fn sent(alloc: Global, failing: Vec<u64>) -> Result<(&'static str, Vec<u8>), LineErr> {
     let mut console = MemConsole::of(alloc, Vec::new(alloc), failing);

@@ -6,7 +6,7 @@
 //!   answered by how often in a row each answer came, and the last; `slowly TEXT` byte by byte, and is answered also by
 //!   the number of reads. The secret is 32 bytes of 7.
 //! - `answer REPLY` and `edge ERROR` are answered by the text of their answers.
-//! - `send CALLS` sends the answer that memory is wanting where the calls of these numbers fail, and is answered by
+//! - `send CALLS` sends the answer that memory runs out where the calls of these numbers fail, and is answered by
 //!   whether all was sent, and by what was written.
 //! - `row KIND ID BODY`, the kind in decimal digits and the others in hexadecimal ones, or `-` for no byte, is answered by
 //!   `same` where it is read as a record that is written as this row again, by `differs` where the record is written as

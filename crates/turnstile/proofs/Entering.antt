@@ -18,9 +18,6 @@ use Rattle.turnstile.proofs.Steps.{serves}
 pub heads : {X : Type 0} (a b : X) (l m : List X) → a ∷ l ≡ b ∷ m → a ≡ b
 heads a b l m e = cc
 
-pub some_same : {X : Type 0} (a b : X) → Some a ≡ Some b → a ≡ b
-some_same a b e = cc
-
 pub slot_value : {V : Type 0} (x y : V) (l m : List (ℕ × V)) → (0, x) ∷ l ≡ (0, y) ∷ m → x ≡ y
 slot_value {V} x y l m e = ap (λ (z : ℕ × V). z.1) (heads (0, x) (0, y) l m e)
 

@@ -1,11 +1,11 @@
 -- Lists of entries by their pass numbers.
-use Rattle.std.proofs.Common.{◌≡◌, ℕ, ◌≤◌, eqb, List, [], ◌∷◌, ◌++◌, length, Bool, true, false, cond, refl, sym, ap, ◌∙◌, arith, append-nil, ◌⊎◌, ◌≢◌, inl, inr, ne_eqb, true≢false}
-use Rattle.std.proofs.lemmas.Bool.{eqb-true}
+use Rattle.std.proofs.Common.{◌≡◌, ℕ, ◌≤◌, eqb, List, [], ◌∷◌, ◌++◌, length, Bool, true, false, cond, refl, sym, ap, ◌∙◌, arith, append-nil, ◌≢◌, ne_eqb, true≢false}
+use Rattle.std.proofs.lemmas.Bool.{eqb-true, or_from}
 use Rattle.std.specs.Prelude.{not, ◌&&◌, ◌||◌}
 use Rattle.turnstile.specs.declared.entry.Entry.{Entry}
 use Rattle.turnstile.specs.History.{has, own, none_own, Each}
 
-free_step : (b c : Bool) → (not b && c) ≡ true → (b ≡ false) × (c ≡ true)
+pub free_step : (b c : Bool) → (not b && c) ≡ true → (b ≡ false) × (c ≡ true)
 free_step true c h = absurd (cc)
 free_step false c h = (refl, h)
 
@@ -80,20 +80,6 @@ has-append (m ∷ ms) ns n = ap (λ b. eqb m n || b) (has-append ms ns n) ∙ or
     or_or true b c = refl
     or_or false b c = refl
 
-pub neither : (a b : Bool) → a ≡ false → b ≡ false → (a || b) ≡ false
-neither a b p q = rw (p, q)
-
-pub either_of : (a b : Bool) → (a || b) ≡ true → (a ≡ true) ⊎ (b ≡ true)
-either_of true b h = inl refl
-either_of false b h = inr h
-
-pub left_of : (a b : Bool) → a ≡ true → (a || b) ≡ true
-left_of a b h = rw h
-
-pub right_of : (a b : Bool) → b ≡ true → (a || b) ≡ true
-right_of true b h = refl
-right_of false b h = h
-
 pub has-one : (m n : ℕ) → has (m ∷ []) n ≡ true → m ≡ n
 has-one m n h = eqb-true m n (or_false (eqb m n) h)
   where
@@ -119,7 +105,7 @@ module _ {C A : Type 0} where
   none_own-numbers ms ns (e ∷ es) p q =
       let s = free_step (has ms e.pass) (none_own ms es) p in
       let t = free_step (has ns e.pass) (none_own ns es) q in
-      free_both (has (ms ++ ns) e.pass) (none_own (ms ++ ns) es) (has-append ms ns e.pass ∙ neither (has ms e.pass) (has ns e.pass) s.0 t.0) (none_own-numbers ms ns es s.1 t.1)
+      free_both (has (ms ++ ns) e.pass) (none_own (ms ++ ns) es) (has-append ms ns e.pass ∙ or_from (has ms e.pass) (has ns e.pass) s.0 t.0) (none_own-numbers ms ns es s.1 t.1)
 
   -- one of the numbers
   pub none_own-number : (ns : List ℕ) (n : ℕ) (es : List (Entry C A)) → has ns n ≡ true → none_own ns es ≡ true → none_own (n ∷ []) es ≡ true

@@ -1,6 +1,6 @@
 -- What a pass says of its view.
 use Rattle.std.proofs.Common.{◌≡◌, ℕ, ◌+◌, ◌^◌, ◌<◌, ◌≤◌, List, [], ◌∷◌, length, cond, Some, refl, sym, ap, ◌∙◌, subst, arith, le_refl}
-use Rattle.std.proofs.lemmas.Bool.{lt-ltb, le-ltb}
+use Rattle.std.proofs.lemmas.Bool.{lt-ltb, le-ltb, or_left}
 use mathlib.Core.Logic.{dite}
 use mathlib.Core.Option.{some, none}
 use lib.ListN.{get_elem?}
@@ -17,7 +17,7 @@ use Rattle.turnstile.specs.Passes.{known_of, known, AtRest}
 use Rattle.turnstile.specs.Steps.{part_of, both, without_parts, Holds, recalled}
 use Rattle.atomic_table.specs.Table.{Me, step, Final, Seen}
 use Rattle.atomic_table.specs.Seated.{TableId}
-use Rattle.turnstile.proofs.Histories.{has-append, left_of}
+use Rattle.turnstile.proofs.Histories.{has-append}
 use Rattle.turnstile.proofs.Sharing.{Resting, above_either, closes_value}
 
 module _ {C A B : Type 0} where
@@ -77,7 +77,7 @@ module _ {V C A B : Type 0} where
 module _ {C A B : Type 0} where
   pub join_standing : (table other table' : TableId) (v w u : SeatView C A B) → u ≡ without_parts (both v w) → w.term ≡ v.term → Standing (known_of table v) → Standing (known_of other w) → Standing (known_of table' u)
   join_standing table other table' v w u is same_term first second = record {
-    own_number = ap (λ (k : SeatView C A B). has k.numbers k.number) is ∙ (has-append v.numbers w.numbers v.number ∙ left_of (has v.numbers v.number) (has w.numbers v.number) first.own_number);
+    own_number = ap (λ (k : SeatView C A B). has k.numbers k.number) is ∙ (has-append v.numbers w.numbers v.number ∙ or_left (has v.numbers v.number) (has w.numbers v.number) first.own_number);
     some_spare = let e : u.spare ≡ v.spare = ap (λ (k : SeatView C A B). k.spare) is in let a = first.some_spare in omega arith;
     range = let e : u.spare ≡ v.spare = ap (λ (k : SeatView C A B). k.spare) is in let f : u.number ≡ v.number = ap (λ (k : SeatView C A B). k.number) is in let a = first.range in omega arith;
     enough_parts = let e : u.spare ≡ v.spare = ap (λ (k : SeatView C A B). k.spare) is in let f : u.parts ≡ v.parts + w.parts = ap (λ (k : SeatView C A B). k.parts) is in let a = first.enough_parts in omega arith;

@@ -1,7 +1,7 @@
 -- Seats that are split and joined, and the end.
 use Rattle.std.proofs.Common.{◌≡◌, ◌≢◌, ℕ, zero, suc, ◌+◌, ◌-◌, ◌/◌, ◌^◌, ◌<◌, ◌≤◌, eqb, List, [], ◌∷◌, ◌++◌, length, set, Bool, true, false, cond, Option, Some, None, refl, sym, ap, ◌∙◌, subst, ⊎_elim, arith, append-nil, length-set, le_refl, eq-eqb, ne_eqb}
 use Rattle.std.specs.Prelude.{◌||◌, nat_lt, slice_index}
-use Rattle.std.proofs.lemmas.Bool.{lt-ltb, le-ltb}
+use Rattle.std.proofs.lemmas.Bool.{lt-ltb, le-ltb, or_from, or_cases, or_left, or_right, false_from_ne_true}
 use mathlib.Core.Logic.{dite}
 use mathlib.Core.Option.{some, none, some-ne-none, some-injective}
 use mathlib.Core.Option as maybe
@@ -16,9 +16,9 @@ use Rattle.turnstile.specs.History.{has, own, none_own, Each}
 use Rattle.turnstile.specs.Rule.{Answers, mark_of, marked, Fits, Stands, Rests, DeskRule}
 use Rattle.turnstile.specs.Known.{or_else, longer}
 use Rattle.turnstile.specs.Steps.{left_half, right_half, second_number, part_of, both, nobody, without_parts, vacant, recalled}
-use Rattle.turnstile.proofs.Histories.{none_own-front, none_own-back, own-none_own, own-later, each-map, each-back, between, has-append, neither, either_of, left_of, right_of, has-one, none_own-each, none_own-none, none_own-numbers, none_own-number, all_and_none, own-all}
+use Rattle.turnstile.proofs.Histories.{none_own-front, none_own-back, own-none_own, own-later, each-map, each-back, between, has-append, has-one, none_own-each, none_own-none, none_own-numbers, none_own-number, all_and_none, own-all}
 use Rattle.turnstile.proofs.Seats.{at_inside, set_at, same_at, seats_stay, total_set, total_snoc, total_rest, at_end}
-use Rattle.turnstile.proofs.Steps.{off, no_ticket, not_true, mark_over, still_waiting, still_answered, served_at, stays_at, no_item}
+use Rattle.turnstile.proofs.Steps.{off, no_ticket, mark_over, still_waiting, still_answered, served_at, stays_at, no_item}
 
 -- n is among the `more` numbers from `least` on
 pub within : ℕ → ℕ → ℕ → Bool
@@ -230,7 +230,7 @@ module _ {V C A B : Type 0} (base : V → B) (entries : V → List (Entry C A)) 
       → ((n : ℕ) → owner n ≡ i → owner' n ≡ id) → ((n : ℕ) → owner n ≡ j → owner' n ≡ id) → Answers history owner' id (ms ++ ns) (longer xs ys)
   later_both history owner owner' i j id ms ns xs ys a c to_i to_j =
       let owns : (n : ℕ) → has (ms ++ ns) n ≡ true → owner' n ≡ id
-      = λ n h. ⊎_elim (λ h'. to_i n (a.3 n h')) (λ h'. to_j n (c.3 n h')) (either_of (has ms n) (has ns n) (sym (has-append ms ns n) ∙ h)) in
+      = λ n h. ⊎_elim (λ h'. to_i n (a.3 n h')) (λ h'. to_j n (c.3 n h')) (or_cases (has ms n) (has ns n) (sym (has-append ms ns n) ∙ h)) in
       longer_cases (λ (zs : List (Entry C A)). Answers history owner' id (ms ++ ns) zs) xs ys
       (λ short. let m = between ys c.0 xs a.0 (sym c.1 ∙ a.1) short in
       (a.0, a.1, none_own-numbers ms ns a.0 a.2 (none_own-back ns m.0 a.0 (ap (none_own ns) (sym m.2) ∙ c.2)), owns))
@@ -273,8 +273,8 @@ module _ {V C A B : Type 0} (base : V → B) (entries : V → List (Entry C A)) 
         answers = later_both r.history r.owner owner id other id v.numbers w.numbers v.seen w.seen f.answers g.answers to_id from_other;
         rejoined = λ k p e. two_parts r.history owner id v w k p e (f.answers.0, f.answers.1, f.answers.2, λ n h. to_id n (f.answers.3 n h)) (g.answers.0, g.answers.1, g.answers.2, λ n h. from_other n (g.answers.3 n h));
         range_owned = λ n l u. to_id n (f.range_owned n l u);
-        range_unused = λ n l u. has-append v.numbers w.numbers n ∙ neither (has v.numbers n) (has w.numbers n) (f.range_unused n l u)
-            (not_true (has w.numbers n) (λ h. apart (sym (g.answers.3 n h) ∙ f.range_owned n (omega arith) u)));
+        range_unused = λ n l u. has-append v.numbers w.numbers n ∙ or_from (has v.numbers n) (has w.numbers n) (f.range_unused n l u)
+            (false_from_ne_true (has w.numbers n) (λ h. apart (sym (g.answers.3 n h) ∙ f.range_owned n (omega arith) u)));
         drew = λ t e. drew_either v.ticket w.ticket t e f.drew g.drew;
         waits = λ t e l. absurd (let a = above_either v.ticket w.ticket t e above_v above_w in omega arith);
         on_turn = λ e. off (sym e ∙ rv.no_turn);
@@ -325,11 +325,11 @@ module _ {V C A B : Type 0} (base : V → B) (entries : V → List (Entry C A)) 
             (λ o. (
               x,
               subst (λ i. get_elem? (set l1 other y) i ≡ some x) (sym (from_other e.pass o)) (set_else l1 other id y (λ i. apart (sym i)) ∙ set_at s.views id v x at),
-              has-append v.numbers w.numbers e.pass ∙ right_of (has v.numbers e.pass) (has w.numbers e.pass)
+              has-append v.numbers w.numbers e.pass ∙ or_right (has v.numbers e.pass) (has w.numbers e.pass)
                   (ap (λ (k : K). has k.numbers e.pass) (same_at s.views other w h.0 there (subst (λ i. get_elem? s.views i ≡ some h.0) o h.1)) ∙ h.2),
             ))
             (λ o. let q = still_two s.views id other v w x y (r.owner e.pass) (λ (k : K). has k.numbers e.pass ≡ true) at apart there o
-            (λ k. has-append v.numbers w.numbers e.pass ∙ left_of (has v.numbers e.pass) (has w.numbers e.pass) k) h in
+            (λ k. has-append v.numbers w.numbers e.pass ∙ or_left (has v.numbers e.pass) (has w.numbers e.pass) k) h in
             (q.0, subst (λ i. get_elem? (set l1 other y) i ≡ some q.0) (sym (joined_owner-else id other r.owner e.pass o)) q.1, q.2))) r.history r.answered;
         whole = let h = total_set (λ (v : K). v.parts) s.views id v x at in let k = total_set (λ (v : K). v.parts) l1 other w y there_set in let o = r.whole in omega arith;
         marks = let h = total_set (marked term) s.views id v x at in let k = total_set (marked term) l1 other w y there_set in let o = r.marks in

@@ -1,7 +1,8 @@
 -- Each step of the desk keeps its rule.
 use Rattle.std.proofs.Common.{◌≡◌, ◌≢◌, ℕ, zero, suc, ◌+◌, ◌%◌, ◌^◌, ◌<◌, ◌≤◌, eqb, List, [], ◌∷◌, ◌++◌, length, set, Bool, true, false, cond, Option, Some, None, refl, sym, ap, ◌∙◌, subst, arith, append_assoc, append-nil, length-append, le_refl, eq-eqb, ne_eqb, true≢false}
 use Rattle.std.specs.Prelude.{◌||◌, nat_lt, slice_index}
-use Rattle.std.proofs.lemmas.Bool.{lt-ltb, le-ltb}
+use Rattle.std.proofs.lemmas.Bool.{lt-ltb, le-ltb, false_from_ne_true}
+use Rattle.std.proofs.lemmas.Option.{same_Some}
 use mathlib.Core.Logic.{dite}
 use mathlib.Core.Option.{some, none, some-ne-none, some-injective}
 use mathlib.Core.Option as maybe
@@ -19,13 +20,6 @@ use Rattle.turnstile.proofs.Seats.{set_at, same_at, seats_stay, total_set, total
 
 pub off : {X : Type 0} → true ≡ false → X
 off e = absurd (true≢false e)
-
-pub some_ticket : (a b : ℕ) → Some a ≡ Some b → a ≡ b
-some_ticket a b e = cc
-
-pub not_true : (c : Bool) → (c ≡ true → ⊥) → c ≡ false
-not_true true h = absurd (h refl)
-not_true false h = refl
 
 pub has_parts : (n : ℕ) → (n ≡ 0 → ⊥) → 0 < n
 has_parts zero h = absurd (h refl)
@@ -161,8 +155,8 @@ module _ {V C A B : Type 0} (base : V → B) (entries : V → List (Entry C A)) 
           rejoined = f.rejoined;
           range_owned = f.range_owned;
           range_unused = f.range_unused;
-          drew = λ t e. let i = some_ticket d t e in omega arith;
-          waits = λ t e _. let i = some_ticket d t e in (omega arith, subst (λ k. drawer id d r.holder k ≡ id) i (drawer_new id d r.holder));
+          drew = λ t e. let i = same_Some d t e in omega arith;
+          waits = λ t e _. let i = same_Some d t e in (omega arith, subst (λ k. drawer id d r.holder k ≡ id) i (drawer_new id d r.holder));
           on_turn = λ e. let o = f.on_turn e in no_ticket (length r.history) (sym fresh ∙ o.0);
           spent = λ e. absurd (omega arith);
         }
@@ -306,7 +300,7 @@ module _ {V C A B : Type 0} (base : V → B) (entries : V → List (Entry C A)) 
         keeps,
         tt,
         stays_at 1 id m s r at (length r.history) (sym (served_at s r)) (ap (λ ws. set ws 1 (length r.history)) r.words_are ∙ sym r.words_are),
-        ((λ e. absurd (ne (some_ticket t (length r.history) (sym has_it ∙ e)))), (λ _. refl)),
+        ((λ e. absurd (ne (same_Some t (length r.history) (sym has_it ∙ e)))), (λ _. refl)),
       )))
 
   serves_at : (id t : ℕ) (m : M) (s : St) (r : Rule s) (x : V) (e : Entry C A) → get_elem? s.views id ≡ some m.0 → m.0.ticket ≡ Some t → m.0.turn ≡ true → length m.0.joined ≡ 0 → has m.0.numbers e.pass ≡ true
@@ -318,7 +312,7 @@ module _ {V C A B : Type 0} (base : V → B) (entries : V → List (Entry C A)) 
       let o = f.on_turn turn in
       let live = has_parts m.0.parts (λ e. let o = f.spent e in no_ticket t (sym o.1 ∙ has_it)) in
       let history : List (Entry C A) = entries x in
-      let here : t ≡ length r.history = some_ticket t (length r.history) (sym has_it ∙ o.0) in
+      let here : t ≡ length r.history = same_Some t (length r.history) (sym has_it ∙ o.0) in
       let longer : history ≡ r.history ++ e ∷ [] = grew ∙ ap (λ (es : List (Entry C A)). es ++ e ∷ []) o.2 in
       let long : length history ≡ t + 1 = ap length longer ∙ (length-append r.history (e ∷ []) ∙ ap (λ k. k + 1) (sym here)) in
       let under : t < term = let l = o.1 in omega arith in
@@ -351,7 +345,7 @@ module _ {V C A B : Type 0} (base : V → B) (entries : V → List (Entry C A)) 
             }
             (λ j u ne there.
             let g = r.each_seat j u there in
-            let not_theirs : (ns : List ℕ) → ((k : ℕ) → has ns k ≡ true → r.owner k ≡ j) → has ns e.pass ≡ false = λ ns owns. not_true (has ns e.pass) (λ h. ne (sym (owns e.pass h) ∙ its)) in
+            let not_theirs : (ns : List ℕ) → ((k : ℕ) → has ns k ≡ true → r.owner k ≡ j) → has ns e.pass ≡ false = λ ns owns. false_from_ne_true (has ns e.pass) (λ h. ne (sym (owns e.pass h) ∙ its)) in
             let more : (ns : List ℕ) (seen : List (Entry C A)) → Answers r.history r.owner j ns seen → Answers history r.owner j ns seen
             = λ ns seen a. (a.0 ++ e ∷ [], longer ∙ (ap (λ (es : List (Entry C A)). es ++ e ∷ []) a.1 ∙ append_assoc seen a.0 (e ∷ [])), none_own-append ns a.0 (e ∷ []) a.2 (none_own-one ns e (not_theirs ns a.3)), a.3) in
             record {
@@ -367,7 +361,7 @@ module _ {V C A B : Type 0} (base : V → B) (entries : V → List (Entry C A)) 
               on_turn = λ turn'. absurd (ne (one_turn_only s r id t j m.0 u at has_it here there turn'));
               spent = g.spent;
             });
-        waiting = λ t' l u k. still_waiting s.views id m.0 w r.holder t' at (λ e'. let same = some_ticket t t' (sym has_it ∙ e') in absurd (omega arith)) (r.waiting t' (omega arith) u k);
+        waiting = λ t' l u k. still_waiting s.views id m.0 w r.holder t' at (λ e'. let same = same_Some t t' (sym has_it ∙ e') in absurd (omega arith)) (r.waiting t' (omega arith) u k);
         answered = subst (λ (es : List (Entry C A)). Each (λ e. (v : K) × (get_elem? (set s.views id w) (r.owner e.pass) ≡ some v) × (has v.numbers e.pass ≡ true)) es) (sym longer)
             (each-snoc _ r.history e (each-map _ _ (λ e. still_answered s.views id m.0 w r.owner at refl e.pass) r.history r.answered)
             (w, subst (λ (i : ℕ). get_elem? (set s.views id w) i ≡ some w) (sym its) (set_at s.views id m.0 w at), mine));

@@ -62,7 +62,7 @@ impl<V: Turn> Desk<V> {
     ghost use Rattle.turnstile.specs.Turned.{IfDone, IfTermFull};
 
     /// Puts a value that stands for no entries on a desk, for at most `term` calls. The value comes back where
-    /// memory is wanting.
+    /// memory runs out.
     pub fn new(alloc: Global, value: V, term: u64) -> Result<(Desk<V>, PassAt<V>), (V, NoMemory)>
         requires empty { V.entries value ≡ [] }
         requires lawful { V.lawful (V.base value) [] }

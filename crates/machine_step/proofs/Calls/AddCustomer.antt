@@ -2,6 +2,7 @@
 use Rattle.std.proofs.Common.{◌≡◌, ◌<◌, ◌≤◌, ◌^◌, true, false, length, refl, arith}
 use Rattle.std.specs.Prelude.{nat_le, ◌==◌}
 use Rattle.std.proofs.lemmas.Bool.Decides.{nat_tests}
+use Rattle.std.proofs.lemmas.Bool.{and_from}
 use Rattle.sat_base.specs.declared.requests.Asked.TheVariants as asks
 use Rattle.machine_calls.specs.declared.asking.Asking.{Asking}
 use Rattle.machine_calls.specs.declared.refusal.Refusal.TheVariants as refusals
@@ -9,7 +10,6 @@ use Rattle.machine_calls.specs.declared.refusal.TableName.TheVariants as names
 use Rattle.machine_step.specs.Tables.{Tables}
 use Rattle.machine_step.specs.Bounds.{IsValid}
 use Rattle.machine_step.proofs.Outcomes.{unless-P, of_caller-P}
-use Rattle.machine_step.proofs.RowLemmas.{and_of}
 use Rattle.machine_step.proofs.Fits.{After, still, fitting_apart, timed_fit}
 use Rattle.machine_step.specs.Calls.AddCustomer.{customer_added, add_customer}
 
@@ -18,7 +18,7 @@ module _ (t : Tables) (v : IsValid t) (asking : Asking) (le : t.marks.time ≤ a
   fit_customer_added room =
       let below : length t.customers < t.setup.caps.customers = grind (arith, nat_tests, room) in
       fitting_apart t v (customer_added t asking) refl
-      (timed_fit t v asking.time le lt, (record { id = omega arith; room = below; added = omega arith }, (record { sound = and_of _ _ own refl; within = (tt, tt) }, tt)))
+      (timed_fit t v asking.time le lt, (record { id = omega arith; room = below; added = omega arith }, (record { sound = and_from _ _ own refl; within = (tt, tt) }, tt)))
 
   pub fit_add_customer : After t (add_customer t asking)
   fit_add_customer =

@@ -2,6 +2,7 @@
 use Rattle.std.proofs.Common.{◌≡◌, ℕ, ◌+◌, ◌<◌, ◌≤◌, ◌^◌, true, false, length, None, refl, arith}
 use Rattle.std.specs.Prelude.{nat_le, ◌==◌}
 use Rattle.std.proofs.lemmas.Bool.Decides.{nat_tests}
+use Rattle.std.proofs.lemmas.Bool.{and_from}
 use Rattle.sat_base.specs.declared.requests.Asked.TheVariants as asks
 use Rattle.rows.specs.Slots.{with_row}
 use Rattle.node_registry.specs.Registry.{node_rank, node_at}
@@ -13,7 +14,7 @@ use Rattle.machine_step.specs.Tables.{Tables, ledger_of}
 use Rattle.machine_step.specs.Rules.{is_known}
 use Rattle.machine_step.specs.Bounds.{IsValid}
 use Rattle.machine_step.proofs.Outcomes.{unless-P, of_caller-P}
-use Rattle.machine_step.proofs.RowLemmas.{row_at-with_row, and_of}
+use Rattle.machine_step.proofs.RowLemmas.{row_at-with_row}
 use Rattle.machine_step.proofs.GrowthLemmas.{none_next}
 use Rattle.machine_step.proofs.MarkLemmas.{month-open}
 use Rattle.machine_step.proofs.Steady.NodeFits.{next_node}
@@ -29,7 +30,7 @@ module _ (t : Tables) (v : IsValid t) (asking : Asking) (le : t.marks.time ≤ a
       let none : node_at t.nodes node.id ≡ None = none_next t.setup t.marks t.nodes 0 node.id.0 v.rules.nodes (omega arith) in
       let pay = same_joined (ledger_of t) node none (month-open t.setup t.marks asking.time le v.rules.marks) in
       fitting t v (node_added t asking addr port free) pay
-      (timed_fit t v asking.time le lt, (next_node (omega arith) below refl (omega arith) refl, (record { sound = and_of _ _ own known; within = (tt, tt) }, tt)))
+      (timed_fit t v asking.time le lt, (next_node (omega arith) below refl (omega arith) refl, (record { sound = and_from _ _ own known; within = (tt, tt) }, tt)))
 
   pub fit_add_node : (addr port free : ℕ) → After t (add_node t asking addr port free)
   fit_add_node addr port free =

@@ -3,6 +3,7 @@ use Rattle.std.proofs.Common.{◌≡◌, ℕ, ◌+◌, ◌*◌, ◌<◌, ◌≤�
 use Rattle.std.specs.Prelude.{nat_lt, nat_le, ◌==◌, map}
 use Rattle.std.proofs.Math.Nat.{mul-le-mul_left}
 use Rattle.std.proofs.lemmas.Bool.Decides.{nat_tests}
+use Rattle.std.proofs.lemmas.Bool.{and_from}
 use Rattle.sat_base.specs.declared.settings.Marks.{Marks}
 use Rattle.sat_base.specs.declared.requests.Asked.TheVariants as asks
 use Rattle.sat_base.specs.declared.requests.Done.TheVariants as dones
@@ -21,7 +22,7 @@ use Rattle.machine_step.proofs.Outcomes.{unless-P, of_customer-P}
 use Rattle.machine_step.proofs.PickLemmas.{got-picks, length-picks, apart-picks, length-pieces, length-ids, counts-pieces, below-pieces, by-index-pieces, known-pieces, subnets-pieces}
 use Rattle.machine_step.proofs.PieceLemmas.{known-places, length-places}
 use Rattle.machine_step.proofs.GrowthLemmas.{plan-most, AreLater, sound-fine}
-use Rattle.machine_step.proofs.RowLemmas.{length-with_row, and_of}
+use Rattle.machine_step.proofs.RowLemmas.{length-with_row}
 use Rattle.machine_step.proofs.SegmentLemmas.{segments_new}
 use Rattle.machine_step.proofs.MarkLemmas.{month-open, hour-most}
 use Rattle.machine_step.proofs.Steady.{MarksFit}
@@ -65,7 +66,7 @@ module _ (t : Tables) (v : IsValid t) (asking : Asking) (le : t.marks.time ≤ a
       let drawn : nat_lt t.marks.serial (t.marks.serial + 1) ≡ true = grind (arith, nat_tests) in
       let numbered : nat_lt t.marks.segment (t.marks.segment + 1) ≡ true = grind (arith, nat_tests) in
       let now : nat_le asking.time asking.time ≡ true = grind (arith, nat_tests) in
-      let offer : is_sound_kept marks t.nodes t.customers kept ≡ true = and_of _ _ owner (and_of _ _ refl (and_of _ _ refl (and_of _ _ (known-places t.nodes t.nodes pieces known) (and_of _ _ drawn (and_of _ _ numbered (and_of _ _ own now)))))) in
+      let offer : is_sound_kept marks t.nodes t.customers kept ≡ true = and_from _ _ owner (and_from _ _ refl (and_from _ _ refl (and_from _ _ (known-places t.nodes t.nodes pieces known) (and_from _ _ drawn (and_from _ _ numbered (and_from _ _ own now)))))) in
       let few : length t.segments < t.setup.caps.segments = grind (arith, nat_tests, room) in
       let fit : MarksFit t.marks marks = record { later = later; time = lt; begun = month-open t.setup t.marks asking.time le v.rules.marks; hour = hour-most t.setup t.marks asking.time le v.rules.marks; segment = omega arith; serial = omega arith; plan = plan-most t.setup t.marks v.rules.marks } in
       fitting_apart t v (begun t asking len words) refl (

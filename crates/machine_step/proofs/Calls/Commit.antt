@@ -2,6 +2,7 @@
 use Rattle.std.proofs.Common.{◌≡◌, ℕ, ◌<◌, ◌≤◌, ◌^◌, Bool, true, false, not, List, length, Some, None, is_some, refl, ap, ◌∙◌, arith}
 use Rattle.std.specs.Prelude.{nat_lt, nat_le, ◌==◌}
 use Rattle.std.proofs.lemmas.Bool.Decides.{nat_tests}
+use Rattle.std.proofs.lemmas.Bool.{and_from}
 use Rattle.sat_base.specs.declared.ids.SegId.{SegId}
 use Rattle.sat_base.specs.declared.records.At.{At}
 use Rattle.sat_base.specs.declared.requests.Asked.TheVariants as asks
@@ -18,14 +19,15 @@ use Rattle.machine_step.specs.Tables.{Tables, customer_at, segment_at, owned_at}
 use Rattle.machine_step.specs.Rules.{is_known, counts_up, is_sound_segment}
 use Rattle.machine_step.specs.Bounds.{IsValid}
 use Rattle.machine_step.proofs.Outcomes.{unless-P, with_record-P, of_customer-P, unless_caused-P}
-use Rattle.machine_step.proofs.PieceLemmas.{length-filtered, all-filtered, apart-filtered, offer-counted}
+use Rattle.machine_step.proofs.PieceLemmas.{all-filtered, apart-filtered, offer-counted}
 use Rattle.machine_step.proofs.GrowthLemmas.{plan-some, sound-fine}
-use Rattle.machine_step.proofs.RowLemmas.{found_rank, length-replaced, and_of}
+use Rattle.machine_step.proofs.RowLemmas.{found_rank, length-replaced}
 use Rattle.machine_step.proofs.SegmentLemmas.{IsNext, segments_set}
 use Rattle.machine_step.proofs.Validity.{segments_hold}
 use Rattle.machine_step.specs.Plans.{timed}
 use Rattle.machine_step.proofs.Fits.{After, still, fitting_apart, fine_found, within_found, found_below, owned_found, timed_fit}
 use Rattle.machine_step.specs.Calls.Commit.{live_of, committed, commit}
+use Rattle.month_pay.proofs.Amounts.{length-filter}
 
 module _ (t : Tables) (v : IsValid t) (asking : Asking) (le : t.marks.time ≤ asking.time) (lt : asking.time < 2 ^ 36) where
   fit_committed : (segment : SegId) (found : SegmentRecord) (indexes : List ℕ) → is_some (customer_at t.customers asking.caller.0) ≡ true → segment_at t.segments segment.0 ≡ Some found
@@ -48,9 +50,9 @@ module _ (t : Tables) (v : IsValid t) (asking : Asking) (le : t.marks.time ≤ a
         known = all-filtered (λ piece. is_known t.nodes piece.node) test found.pieces f.known;
         apart = apart-filtered t.nodes test found.pieces f.apart;
         indexed = all-filtered (λ piece. nat_lt piece.index t.setup.n) test found.pieces f.indexed;
-        version = and_of _ _ plan live;
+        version = and_from _ _ plan live;
       }) in
-      let shorter = length-filtered test found.pieces in
+      let shorter = length-filter test found.pieces in
       let same : found.id.0 ≡ segment.0 = found_rank segment_rank t.segments segment.0 found at in
       let there : is_some (row_at segment_rank t.segments (segment_rank row)) ≡ true = ap (λ (k : ℕ). is_some (row_at segment_rank t.segments k)) same ∙ ap is_some at in
       let kept : Kept = record { caller = asking.caller; number = asking.number; asked = asks.Commit segment indexes; done = dones.Committed segment } in
@@ -67,7 +69,7 @@ module _ (t : Tables) (v : IsValid t) (asking : Asking) (le : t.marks.time ≤ a
             few = omega (arith, length-replaced segment_rank t.segments row v.order.segments there, (segments_hold t v).few);
             grows = segments_set t.marks.segment t.segments row found own next;
           },
-          (record { sound = and_of _ _ owner (and_of _ _ below below); within = (omega (arith, number, shorter, w.few), tt) }, tt),
+          (record { sound = and_from _ _ owner (and_from _ _ below below); within = (omega (arith, number, shorter, w.few), tt) }, tt),
         ),
       )
 

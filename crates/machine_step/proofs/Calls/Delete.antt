@@ -1,5 +1,6 @@
 -- What a delete changes fits.
 use Rattle.std.proofs.Common.{◌≡◌, ◌<◌, ◌≤◌, ◌^◌, true, Some, is_some, refl}
+use Rattle.std.proofs.lemmas.Bool.{and_from}
 use Rattle.sat_base.specs.declared.ids.SegId.{SegId}
 use Rattle.sat_base.specs.declared.requests.Asked.TheVariants as asks
 use Rattle.segment_core.specs.Record.{SegmentRecord}
@@ -8,7 +9,6 @@ use Rattle.machine_calls.specs.declared.refusal.Refusal.TheVariants as refusals
 use Rattle.machine_step.specs.Tables.{Tables, customer_at, segment_at, owned_at}
 use Rattle.machine_step.specs.Bounds.{IsValid}
 use Rattle.machine_step.proofs.Outcomes.{with_record-P, of_customer-P}
-use Rattle.machine_step.proofs.RowLemmas.{and_of}
 use Rattle.machine_step.proofs.Fits.{After, still, fitting_apart, found_below, owned_found, timed_fit}
 use Rattle.machine_step.specs.Calls.Delete.{deleted, delete}
 
@@ -18,7 +18,7 @@ module _ (t : Tables) (v : IsValid t) (asking : Asking) (le : t.marks.time ≤ a
   fit_deleted segment found owner at =
       let below = found_below t v segment.0 found at in
       fitting_apart t v (deleted t asking segment) refl
-      (timed_fit t v asking.time le lt, (tt, (record { sound = and_of _ _ owner (and_of _ _ below below); within = (tt, tt) }, tt)))
+      (timed_fit t v asking.time le lt, (tt, (record { sound = and_from _ _ owner (and_from _ _ below below); within = (tt, tt) }, tt)))
 
   pub fit_delete : (segment : SegId) → After t (delete t asking segment)
   fit_delete segment =

@@ -2,6 +2,7 @@
 use Rattle.std.proofs.Common.{◌≡◌, ◌+◌, ◌<◌, ◌≤◌, ◌^◌, true, false, length, Some, is_some, refl, arith}
 use Rattle.std.specs.Prelude.{nat_lt, nat_le, ◌==◌}
 use Rattle.std.proofs.lemmas.Bool.Decides.{nat_tests}
+use Rattle.std.proofs.lemmas.Bool.{and_from}
 use Rattle.sat_base.specs.declared.ids.SegId.{SegId}
 use Rattle.sat_base.specs.declared.settings.Marks.{Marks}
 use Rattle.sat_base.specs.declared.requests.Asked.TheVariants as asks
@@ -17,15 +18,15 @@ use Rattle.machine_step.specs.Places.{places_of}
 use Rattle.machine_step.specs.Rules.{is_sound_kept}
 use Rattle.machine_step.specs.Bounds.{IsValid}
 use Rattle.machine_step.proofs.Outcomes.{unless-P, with_record-P, of_customer-P}
-use Rattle.machine_step.proofs.PieceLemmas.{length-filtered, known-healthy, known-places, length-places}
+use Rattle.machine_step.proofs.PieceLemmas.{known-healthy, known-places, length-places}
 use Rattle.machine_step.proofs.GrowthLemmas.{plan-most, AreLater, segment-most}
-use Rattle.machine_step.proofs.RowLemmas.{and_of}
 use Rattle.machine_step.proofs.MarkLemmas.{month-open, hour-most}
 use Rattle.machine_step.proofs.Steady.{MarksFit}
 use Rattle.machine_step.proofs.Fits.{After, still, fitting_apart, within_found, found_below, owned_found}
 use Rattle.machine_step.specs.Calls.Begin.{piece_len_of}
 use Rattle.machine_step.specs.Health.{healthy_of}
 use Rattle.machine_step.specs.Calls.Get.{offered, get}
+use Rattle.month_pay.proofs.Amounts.{length-filter}
 
 module _ (t : Tables) (v : IsValid t) (asking : Asking) (le : t.marks.time ≤ asking.time) (lt : asking.time < 2 ^ 36) where
   fit_offered : (segment : SegId) (found : SegmentRecord) → is_some (customer_at t.customers asking.caller.0) ≡ true → segment_at t.segments segment.0 ≡ Some found
@@ -41,10 +42,10 @@ module _ (t : Tables) (v : IsValid t) (asking : Asking) (le : t.marks.time ≤ a
       let own : (asking.caller.0 == asking.caller.0) ≡ true = grind (arith, nat_tests) in
       let drawn : nat_lt t.marks.serial (t.marks.serial + 1) ≡ true = grind (arith, nat_tests) in
       let now : nat_le asking.time asking.time ≡ true = grind (arith, nat_tests) in
-      let offer : is_sound_kept marks t.nodes t.customers kept ≡ true = and_of _ _ owner (and_of _ _ below (and_of _ _ refl (and_of _ _ (known-places t.nodes t.nodes pieces (known-healthy t.nodes found.pieces)) (and_of _ _ drawn (and_of _ _ below (and_of _ _ own now)))))) in
+      let offer : is_sound_kept marks t.nodes t.customers kept ≡ true = and_from _ _ owner (and_from _ _ below (and_from _ _ refl (and_from _ _ (known-places t.nodes t.nodes pieces (known-healthy t.nodes found.pieces)) (and_from _ _ drawn (and_from _ _ below (and_from _ _ own now)))))) in
       let fit : MarksFit t.marks marks = record { later = later; time = lt; begun = month-open t.setup t.marks asking.time le v.rules.marks; hour = hour-most t.setup t.marks asking.time le v.rules.marks; segment = segment-most t.setup t.marks v.rules.marks; serial = omega arith; plan = plan-most t.setup t.marks v.rules.marks } in
       fitting_apart t v (offered t asking segment found) refl
-      (fit, (record { sound = offer; within = (tt, omega (arith, length-places t.nodes pieces, length-filtered (is_healthy t.nodes) found.pieces, w.few)) }, tt))
+      (fit, (record { sound = offer; within = (tt, omega (arith, length-places t.nodes pieces, length-filter (is_healthy t.nodes) found.pieces, w.few)) }, tt))
 
   pub fit_get : (segment : SegId) → After t (get t asking segment)
   fit_get segment =

@@ -2,6 +2,7 @@
 use Rattle.std.proofs.Common.{◌≡◌, ℕ, ◌<◌, ◌≤◌, ◌^◌, true, false, List, Some, refl, arith}
 use Rattle.std.specs.Prelude.{nat_lt, slice_index}
 use Rattle.std.proofs.lemmas.Bool.Decides.{nat_tests}
+use Rattle.std.proofs.lemmas.Bool.{and_from}
 use Rattle.sat_base.specs.Scheme.{stripe_count}
 use Rattle.segment_core.specs.Record.{SegmentRecord}
 use Rattle.repair_core.proofs.Numbers.{some_stripes}
@@ -15,7 +16,6 @@ use Rattle.machine_step.specs.Calls.PlanAudit.{is_asked, audit_of, audit_planned
 use Rattle.machine_step.specs.PlanRules.{is_planned_of, stripes_of, is_audit_of}
 use Rattle.machine_step.specs.Bounds.{IsValid}
 use Rattle.machine_step.proofs.Outcomes.{unless-P, with_record-P}
-use Rattle.machine_step.proofs.RowLemmas.{and_of}
 use Rattle.machine_step.proofs.Fits.{After, still, fitting_apart, fine_found}
 use Rattle.machine_step.proofs.Drawn.{live-found, some-within, among-some, drawn_fit, is_drawn_now, version_now}
 
@@ -29,14 +29,14 @@ module _ (t : Tables) (v : IsValid t) (time : ℕ) (le : t.marks.time ≤ time) 
       let stripes : 1 ≤ stripe_count t.setup.k t.setup.share found.len = some_stripes t.setup.k t.setup.share found.len scheme.rebuilds scheme.some_bytes some in
       let stripe_lt : plan.stripe < stripe_count t.setup.k t.setup.share found.len = omega (arith, stripes) in
       let stripe : nat_lt plan.stripe (stripes_of t.setup found) ≡ true = grind (arith, nat_tests, stripe_lt) in
-      let of : is_audit_of t.setup plan found ≡ true = and_of _ _ stripe (among-some found.pieces (is_asked t)) in
+      let of : is_audit_of t.setup plan found ≡ true = and_from _ _ stripe (among-some found.pieces (is_asked t)) in
       let planned : is_planned_of (segment_at t.segments found.id.0) found.version (is_audit_of t.setup plan) ≡ true = rw at (grind (arith, nat_tests, of)) in
       let below : found.id.0 < t.marks.segment = let b = f.below in grind (arith, nat_tests, b) in
       fitting_apart t v (audit_planned t time plan) refl (
         drawn_fit t v time le lt number,
         (
           record {
-            sound = and_of _ _ (is_drawn_now t v time le lt found.id.0 f.below) (and_of _ _ (version_now t v time le lt found live f.version) planned);
+            sound = and_from _ _ (is_drawn_now t v time le lt found.id.0 f.below) (and_from _ _ (version_now t v time le lt found live f.version) planned);
             below = below;
             within = some-within t v (is_asked t) found.id.0 found at;
           },

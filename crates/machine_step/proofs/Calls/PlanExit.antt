@@ -3,6 +3,7 @@ use Rattle.std.proofs.Common.{◌≡◌, ℕ, ◌/◌, ◌%◌, ◌<◌, ◌≤�
 use Rattle.std.specs.Prelude.{if◌then◌else◌, nat_lt, nat_le, ◌==◌, filter, find, slice_index, drop}
 use Rattle.std.specs.List.{list_all, list_any}
 use Rattle.std.proofs.lemmas.Bool.Decides.{nat_tests}
+use Rattle.std.proofs.lemmas.Bool.{and_parts, and_from}
 use Rattle.sat_base.specs.declared.ids.NodeId.{NodeId}
 use Rattle.sat_base.specs.declared.records.At.{At}
 use Rattle.rows.specs.Rows.{row_at}
@@ -35,7 +36,7 @@ use Rattle.machine_step.specs.Rules.{first_bad, breaks_node, is_known, are_known
 use Rattle.machine_step.specs.PlanRules.{is_planned_of, is_target_of, is_move_of, is_exited, is_sound_left, is_accounted}
 use Rattle.machine_step.specs.Bounds.{Each, IsValid}
 use Rattle.machine_step.proofs.Outcomes.{unless-P, with_record-P, if_found-P}
-use Rattle.machine_step.proofs.RowLemmas.{row_at-with_row, rising-with_row, all-with_row, all-found, found_rank, both, and_of}
+use Rattle.machine_step.proofs.RowLemmas.{row_at-with_row, rising-with_row, all-with_row, all-found, found_rank}
 use Rattle.machine_step.proofs.PieceLemmas.{known-healthy}
 use Rattle.machine_step.proofs.PickLemmas.{got-picks}
 use Rattle.machine_step.proofs.GrowthLemmas.{extends_set, nodes-set, found-got}
@@ -135,8 +136,8 @@ module _ (t : Tables) (v : IsValid t) (time : ℕ) (le : t.marks.time ≤ time) 
       weaker : {X : Type 0} (strong weak : X → Bool) (xs : List X) → ((x : X) → strong x ≡ true → weak x ≡ true) → list_all strong xs ≡ true → list_all weak xs ≡ true
       weaker strong weak [] so all = refl
       weaker strong weak (x ∷ xs) so all =
-          let parts = both (strong x) (list_all strong xs) all in
-          and_of _ _ (so x parts.0) (weaker strong weak xs so parts.1)
+          let parts = and_parts (strong x) (list_all strong xs) all in
+          and_from _ _ (so x parts.0) (weaker strong weak xs so parts.1)
 
   -- the piece that leaves is among the healthy ones
   find-lies : (id : NodeId) (pieces : List At) (leaving : At) → find (lies_on id) pieces ≡ Some leaving → lies_on id leaving ≡ true
@@ -191,18 +192,18 @@ module _ (t : Tables) (v : IsValid t) (time : ℕ) (le : t.marks.time ≤ time) 
       let off' : list_any (λ other. subnet_at (addr_of (node_at t.nodes pick.id)) == other) (subnets_of t.nodes sources) ≡ false = ap (λ (x : ℕ). list_any (λ other. x == other) (subnets_of t.nodes sources)) subnet_is ∙ off in
       let there : is_known t.nodes pick.id ≡ true = ap is_some pick_is in
       let index : (leaving.index == leaving.index) ≡ true = grind (arith, nat_tests) in
-      let target_of : is_target_of t.nodes leaving sources (target ∷ []) ≡ true = and_of _ _ index (and_of _ _ there (ap not off')) in
+      let target_of : is_target_of t.nodes leaving sources (target ∷ []) ≡ true = and_from _ _ index (and_from _ _ there (ap not off')) in
       let len : (found.len == found.len) ≡ true = grind (arith, nat_tests) in
-      let own : is_move_of move found ≡ true = and_of _ _ (and_of _ _ len (among-some found.pieces (is_healthy t.nodes))) has in
+      let own : is_move_of move found ≡ true = and_from _ _ (and_from _ _ len (among-some found.pieces (is_healthy t.nodes))) has in
       let planned : is_planned_of (segment_at t.segments found.id.0) found.version (is_move_of move) ≡ true = rw at (grind (arith, nat_tests, own)) in
       let low : nat_lt leaving.index limits.PLACES ≡ true = below-place limits.PLACES sources leaving (some-within t v (is_healthy t.nodes) found.id.0 found at).below has in
       fitting_apart t v (exit_planned t time move target) refl (
         drawn_fit t v time le lt number,
         (
           record {
-            sound = and_of _ _ (is_drawn_now t v time le lt found.id.0 f.below) (and_of _ _ (version_now t v time le lt found live f.version) (and_of _ _ planned (and_of _ _ enough (and_of _ _ known target_of))));
+            sound = and_from _ _ (is_drawn_now t v time le lt found.id.0 f.below) (and_from _ _ (version_now t v time le lt found live f.version) (and_from _ _ planned (and_from _ _ enough (and_from _ _ known target_of))));
             below = (let b = f.below in grind (arith, nat_tests, b));
-            within = record { sources = some-within t v (is_healthy t.nodes) found.id.0 found at; targets = record { by_index = by_index-rising (target ∷ []) (tt, tt); few = omega arith; below = and_of _ _ low refl } };
+            within = record { sources = some-within t v (is_healthy t.nodes) found.id.0 found at; targets = record { by_index = by_index-rising (target ∷ []) (tt, tt); few = omega arith; below = and_from _ _ low refl } };
           },
           tt,
         ),

@@ -4,6 +4,8 @@ use Rattle.std.specs.Prelude.{if◌then◌else◌, nat_lt, nat_le, ◌==◌, map
 use Rattle.std.specs.List.{list_all, list_any, range_with_len}
 use Rattle.std.proofs.Math.Nat.{mul-le-mul_left}
 use Rattle.std.proofs.lemmas.Bool.Decides.{nat_tests}
+use Rattle.std.proofs.lemmas.List.FromFn.{length-range_with_len}
+use Rattle.std.proofs.lemmas.Bool.{and_from}
 use Rattle.node_registry.specs.declared.node.Node.{Node}
 use Rattle.segment_core.specs.Record.{SegmentRecord, segment_rank}
 use Rattle.segment_core.specs.Health.{is_healthy}
@@ -22,14 +24,13 @@ use Rattle.machine_step.specs.Rules.{are_known, are_apart, are_below}
 use Rattle.machine_step.specs.PlanRules.{are_new, are_targets, is_planned_of, is_repair_of, is_whole_repair_of}
 use Rattle.machine_step.specs.Bounds.{Each, IsValid}
 use Rattle.machine_step.proofs.Outcomes.{unless-P, with_record-P}
-use Rattle.machine_step.proofs.RowLemmas.{and_of}
 use Rattle.machine_step.proofs.PieceLemmas.{all-filtered, apart-filtered, below-most}
 use Rattle.machine_step.proofs.PickLemmas.{got-picks, length-picks, apart-picks, length-ids}
 use Rattle.machine_step.proofs.IndexLemmas.{by_index-rising, few-pieces}
 use Rattle.machine_step.proofs.Fits.{After, still, fitting_apart, fine_found, picks_found}
 use Rattle.machine_step.proofs.Drawn.{some-within, among-some, drawn_fit, is_drawn_now, version_now}
 use Rattle.machine_step.proofs.RowLemmas.{rising-got}
-use Rattle.machine_step.proofs.FreeIndexes.{range-rising, range-below, range-length, rising-kept, free-count, length-paired, rising-paired, all-paired, known-paired, subnets-paired}
+use Rattle.machine_step.proofs.FreeIndexes.{range-rising, range-below, rising-kept, free-count, length-paired, rising-paired, all-paired, known-paired, subnets-paired}
 use Rattle.machine_step.proofs.TakenLemmas.{OffTaken, off-picks, off-member, apart-both, subnets-append}
 use Rattle.sat_base.specs.declared.limits.TheConstants as limits
 
@@ -62,7 +63,7 @@ module _ (t : Tables) (v : IsValid t) (found : SegmentRecord) (words : List ℕ)
       let free = free-count (healthy_of t found) all (range-rising 0 t.setup.n) in
       let count = picks-count in
       let scheme = v.bounds.setup.scheme in
-      omega (arith, count, free, range-length 0 t.setup.n, le_o, scheme.tries_enough)
+      omega (arith, count, free, length-range_with_len 0 t.setup.n, le_o, scheme.tries_enough)
 
   -- there are as many targets as are needed
   pub targets-number : length (targets_for t (healthy_of t found) found.len words need) ≡ need
@@ -97,16 +98,16 @@ module _ (t : Tables) (v : IsValid t) (time : ℕ) (le : t.marks.time ≤ time) 
       = ap are_apart (subnets-append t.nodes sources targets ∙ ap (λ (xs : List ℕ). subnets_of t.nodes sources ++ xs) subnets)
       ∙ apart-both (subnets_of t.nodes sources) (map subnet_of picks) (apart-filtered t.nodes (is_healthy t.nodes) found.pieces f.apart) (apart-picks where_ need fresh fresh_le) (off-all picks (off-picks where_ need fresh)) in
       let one : nat_le 1 (length targets) ≡ true = grind (arith, nat_tests, long, some) in
-      let are : are_targets t.setup t.nodes sources targets ≡ true = and_of _ _ one (and_of _ _ below (and_of _ _ new (and_of _ _ known apart))) in
+      let are : are_targets t.setup t.nodes sources targets ≡ true = and_from _ _ one (and_from _ _ below (and_from _ _ new (and_from _ _ known apart))) in
       let plan = repair_of t time found sources targets in
-      let own : is_repair_of plan found ≡ true = and_of _ _ (len_same found.len) (among-some found.pieces (is_healthy t.nodes)) in
-      let whole : is_whole_repair_of t.setup t.nodes plan found ≡ true = and_of _ _ own (and_of _ _ enough are) in
+      let own : is_repair_of plan found ≡ true = and_from _ _ (len_same found.len) (among-some found.pieces (is_healthy t.nodes)) in
+      let whole : is_whole_repair_of t.setup t.nodes plan found ≡ true = and_from _ _ own (and_from _ _ enough are) in
       let planned : is_planned_of (segment_at t.segments found.id.0) found.version (is_whole_repair_of t.setup t.nodes plan) ≡ true = rw at (grind (arith, nat_tests, whole)) in
       fitting_apart t v (repair_planned t time plan) refl (
         drawn_fit t v time le lt number,
         (
           record {
-            sound = and_of _ _ (is_drawn_now t v time le lt found.id.0 f.below) (and_of _ _ (version_now t v time le lt found live f.version) planned);
+            sound = and_from _ _ (is_drawn_now t v time le lt found.id.0 f.below) (and_from _ _ (version_now t v time le lt found live f.version) planned);
             below = (let b = f.below in grind (arith, nat_tests, b));
             within = record { sources = some-within t v (is_healthy t.nodes) found.id.0 found at; targets = record { by_index = by_index-rising targets rising; few = omega (arith, few-pieces t.setup.n targets rising below, scheme.few_pieces); below = below-most t.setup.n limits.PLACES targets scheme.few_pieces below } };
           },

@@ -2,6 +2,7 @@
 use Rattle.std.proofs.Common.{◌≡◌, ℕ, ◌<◌, ◌≤◌, ◌^◌, true, List, is_some, Result, Ok, Err, refl, sym, ap, subst, ◌∙◌, arith}
 use Rattle.std.specs.Prelude.{nat_le}
 use Rattle.std.proofs.lemmas.Bool.Decides.{nat_tests}
+use Rattle.std.proofs.lemmas.Bool.{and_from}
 use Rattle.sat_base.specs.declared.ids.NodeId.{NodeId}
 use Rattle.rows.specs.Rows.{row_at}
 use Rattle.node_registry.specs.Registry.{node_rank, node_at}
@@ -18,7 +19,7 @@ use Rattle.machine_step.specs.Tables.{Tables, ledger_of}
 use Rattle.machine_step.specs.Rules.{is_known, is_sound_settled}
 use Rattle.machine_step.specs.Bounds.{IsValid}
 use Rattle.machine_step.proofs.Outcomes.{with_record-P}
-use Rattle.machine_step.proofs.RowLemmas.{length-with_row, and_of}
+use Rattle.machine_step.proofs.RowLemmas.{length-with_row}
 use Rattle.machine_step.proofs.MarkLemmas.{month-open}
 use Rattle.order_limits.proofs.Fields.{IsBytes}
 use Rattle.machine_step.proofs.SettleLemmas.{settles-new}
@@ -32,7 +33,7 @@ module _ (t : Tables) (v : IsValid t) (time : ℕ) (le : t.marks.time ≤ time) 
   fit_settle_as : (node : NodeId) (bytes : List ℕ) (r : Result Settlable SettleErr) → IsBytes bytes → is_known t.nodes node ≡ true → settlable t.settled t.setup.caps.settled t.setup.secret node time bytes ≡ r → After t (settle_as t time r)
   fit_settle_as node bytes (Ok (may.New row)) small known is =
       let new = settles-new t.settled t.setup.caps.settled t.setup.secret node time bytes row small is in
-      let sound : is_sound_settled (timed t.marks time) t.nodes row ≡ true = let early : nat_le row.at time ≡ true = let at = new.at in grind (arith, nat_tests, at) in and_of _ _ (ap (λ (k : ℕ). is_some (row_at node_rank t.nodes k)) new.node ∙ known) early in
+      let sound : is_sound_settled (timed t.marks time) t.nodes row ≡ true = let early : nat_le row.at time ≡ true = let at = new.at in grind (arith, nat_tests, at) in and_from _ _ (ap (λ (k : ℕ). is_some (row_at node_rank t.nodes k)) new.node ∙ known) early in
       let few = (steady_of t v).settled.few in
       let pay = same_settled (ledger_of t) row new.absent (subst (λ (at : ℕ). t.marks.month.0 ≤ month_at at) (sym new.at) (month-open t.setup t.marks time le v.rules.marks)) in
       fitting t v (settle_as t time (Ok (may.New row))) pay

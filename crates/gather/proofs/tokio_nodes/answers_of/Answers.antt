@@ -3,7 +3,7 @@ use Rattle.std.specs.List.{AllZip}
 use Rattle.std.specs.Vec.Iter.{into_iter_items}
 use Rattle.std.proofs.lemmas.Slice.Zip.{all_zipped_more}
 use Rattle.sat_base.specs.declared.nodes.Fetched.{Fetched}
-use Rattle.sat_base.specs.Nodes.{is_wanting}
+use Rattle.sat_base.specs.Nodes.{is_out_of_memory}
 use Rattle.gather.specs.Rounds.{HeardAt, TakenFrom}
 use Rattle.gather.proofs.CountLemmas.{count_none}
 use Rattle.gather.proofs.tokio_nodes.answers_of.Goals as goal
@@ -20,7 +20,7 @@ loop-one-preserved c =
     record {
       each = subst (λ (all : List Fetched). AllZip TakenFrom (yielded ++ one ∷ []) all) (sym pushed)
           (all_zipped_more TakenFrom yielded answers one answer before.each c.answer_of-answer.ensures);
-      none = ap (λ (all : List Fetched). count_by is_wanting all) pushed ∙ count_none is_wanting answers answer before.none (sym c.is_memory.ensures ∙ c.if-is_memory.false);
+      none = ap (λ (all : List Fetched). count_by is_out_of_memory all) pushed ∙ count_none is_out_of_memory answers answer before.none (sym c.is_memory.ensures ∙ c.if-is_memory.false);
       split = append_assoc yielded (one ∷ []) (into_iter_items c.next.new.self) ∙ ap (λ (rest : List HeardAt). yielded ++ rest) (sym stepped) ∙ before.split;
       made = omega (arith, c.push_reserved.ensures.len, before.made, length-append yielded (one ∷ []));
       room = c.push_reserved.ensures.capacity ∙ before.room;

@@ -3,7 +3,7 @@ use Rattle.std.specs.List.{AllZip}
 use Rattle.sat_base.specs.declared.nodes.Ask.{Ask}
 use Rattle.sat_base.specs.declared.nodes.Fetched.{Fetched}
 use Rattle.sat_base.specs.declared.nodes.Fetched.TheVariants.{NoAnswer}
-use Rattle.sat_base.specs.Nodes.{is_wanting}
+use Rattle.sat_base.specs.Nodes.{is_out_of_memory}
 use Rattle.node_wire.specs.Answers.{IsHeardFetch}
 use Rattle.gather.proofs.CountLemmas.{count_none}
 use Rattle.gather.proofs.Zips.{zip_more}
@@ -23,5 +23,5 @@ loop-preserved c =
       room = c.push_reserved.ensures.capacity ∙ before.room;
       each = subst (λ (all : List Fetched). AllZip IsHeardFetch (take (c.loop.index + 1) c.args.asked.now) all) (sym pushed)
           (zip_more IsHeardFetch c.args.asked.now c.loop.index no_ask answers NoAnswer c.loop-test.true before.each tt);
-      none = ap (λ (all : List Fetched). count_by is_wanting all) pushed ∙ count_none is_wanting answers NoAnswer before.none refl;
+      none = ap (λ (all : List Fetched). count_by is_out_of_memory all) pushed ∙ count_none is_out_of_memory answers NoAnswer before.none refl;
     }

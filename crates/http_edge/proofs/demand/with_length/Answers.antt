@@ -1,7 +1,8 @@
 use Rattle.std.proofs.Common.{codes, map, sym, ◌∙◌, ◌≡◌, ◌≢◌, length}
 use Rattle.httparse.specs.Spans.{header_bytes}
-use Rattle.http_edge.specs.Headers.{values_named}
-use Rattle.http_edge.proofs.LengthLemmas.{first_is, lengths_none, lengths_many, lengths_bad, lengths_great, lengths_good}
+use Rattle.http_parts.specs.Headers.{values_named}
+use Rattle.http_parts.proofs.HeaderLemmas.{first_is}
+use Rattle.http_edge.proofs.LengthLemmas.{lengths_none, lengths_many, lengths_bad, lengths_great, lengths_good}
 use Rattle.sat_base.proofs.TextLemmas.{numeral_is}
 use Rattle.http_edge.proofs.demand.with_length.Goals as goal
 

@@ -3,7 +3,7 @@ use Rattle.std.proofs.lemmas.List.{length-append}
 use Rattle.std.proofs.lemmas.Slice.{between_to_end}
 use Rattle.http_edge.specs.Requests.{MayReadBehind, failed_request, refused, stated}
 use Rattle.sat_base.proofs.Transfers.{took_as, took_none, took_within}
-use Rattle.http_edge.specs.Fetches.{MayReadBody}
+use Rattle.http_parts.specs.Bodies.{MayReadBody}
 use Rattle.http_edge.proofs.RequestLemmas.{bodied_as}
 use Rattle.http_edge.proofs.request.behind_head.Goals as goal
 

@@ -1,9 +1,10 @@
 use Rattle.std.proofs.Common.{◌≤◌, ◌++◌, length, take, true, false, ap, arith}
 use Rattle.std.proofs.lemmas.List.{length-take-le, length-append}
 use Rattle.sat_base.proofs.Transfers.{took_as, took_then}
-use Rattle.http_edge.specs.Heads.{MayReadHead, max_head}
+use Rattle.http_parts.specs.Heads.{MayReadHead, max_head}
+use Rattle.http_parts.proofs.FrontLemmas.{all_is, never_more, lacks_all, lacks_more, head_of_all}
 use Rattle.http_edge.specs.Requests.{MayRead, a_body, a_head, failed_request, no_head, short, long}
-use Rattle.http_edge.proofs.RequestLemmas.{all_is, head_took, headed_as, never_more, lacks_all, lacks_more, head_of_all}
+use Rattle.http_edge.proofs.RequestLemmas.{head_took, headed_as}
 use Rattle.http_edge.proofs.request.read_into.Goals as goal
 
 pub returns-in-Never-clause-outcome : goal.returns-in-Never-clause-outcome

@@ -1,4 +1,4 @@
-use Rattle.std.proofs.Common.{◌≡◌, ◌++◌, []}
+use Rattle.std.proofs.Common.{◌≡◌, ◌++◌}
 use Rattle.std.specs.Vec.Iter.{into_iter_items}
 use Rattle.machine_store.proofs.opening.node_table.Given as goal
 
@@ -6,6 +6,5 @@ use Rattle.machine_store.proofs.opening.node_table.Given as goal
 abbrev pub invariant-loop-node : goal.invariant-loop-node
 invariant-loop-node l = record {
   nodes : l.table.nodes ≡ l.yielded;
-  contained : l.table.contained ≡ [];
   left : l.yielded ++ into_iter_items l.node-iterator ≡ l.fn.nodes.items;
 }

@@ -1,6 +1,7 @@
-use Rattle.std.proofs.Common.{◌≡◌, ◌^◌, ◌<◌, ℕ, List, [], length, take, Some, ap, sym, subst, ◌∙◌, arith}
+use Rattle.std.proofs.Common.{◌≡◌, ◌^◌, ◌<◌, List, [], length, take, Some, ap, sym, subst, ◌∙◌, arith}
 use Rattle.std.specs.Prelude.{slice_get, slice_index_or}
 use Rattle.std.proofs.lemmas.List.{take_all}
+use Rattle.std.proofs.lemmas.Option.{slice_get-get_or}
 use Rattle.rows.specs.Slots.{Slots}
 use Rattle.settlement.specs.declared.row.SettledRow.{SettledRow}
 use Rattle.settlement.specs.Rows.{key}
@@ -10,7 +11,6 @@ use Rattle.month_pay.specs.Months.{month_at, month_of_hour}
 use Rattle.month_sums.specs.declared.sums.OpenSums.{OpenSums}
 use Rattle.month_sums.specs.Open.{GoByRows}
 use Rattle.month_sums.specs.Counting.{AreSmall}
-use Rattle.month_sums.proofs.PassLemmas.{got-index}
 use Rattle.month_sums.proofs.Counted.{none_counted, next_absent, next_behind, counted_fit, each-more}
 use Rattle.month_sums.proofs.counting.count_all.Goals as goal
 
@@ -32,7 +32,7 @@ loop-i-preserved c =
     let i = c.loop-i.i in
     let row = c.index-settled-i.result in
     let rising = c.requires.orders.rising in
-    let got : slice_get settled i ≡ Some row = got-index settled i row c.loop-i-test.true ∙ ap Some (sym c.index-settled-i.is) in
+    let got : slice_get settled i ≡ Some row = slice_get-get_or settled i row c.loop-i-test.true ∙ ap Some (sym c.index-settled-i.is) in
     record {
       counts = subst (λ (xs : List SettledRow). GoByRows c.count_settled.new.counted.rows xs [] []) (next_behind key settled i row rising got)
           (c.in_ok-count_settled.ensures.counts (take i settled) [] [] (next_absent key settled i row rising got) c.loop-i.invariant.counts);
@@ -56,7 +56,7 @@ loop-j-preserved c =
     let j = c.loop-j.j in
     let row = slice_index_or tallies j none in
     let rising = c.requires.hours.rising in
-    let got : slice_get tallies j ≡ Some row = got-index tallies j none c.loop-j-test.true in
+    let got : slice_get tallies j ≡ Some row = slice_get-get_or tallies j none c.loop-j-test.true in
     record {
       counts = subst (λ (xs : List Tally). GoByRows c.count_tally.new.counted.rows settled xs []) (next_behind tally_rank tallies j row rising got)
           (c.in_ok-count_tally.ensures settled (take j tallies) [] (next_absent tally_rank tallies j row rising got) c.loop-j.invariant.counts);

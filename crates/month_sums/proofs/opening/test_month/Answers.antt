@@ -1,11 +1,11 @@
 use Rattle.std.proofs.Common.{◌≡◌, ℕ, ◌+◌, ◌<◌, ◌++◌, List, length, get_or, drop, Some, ap, sym, subst, ◌∙◌, arith}
 use Rattle.std.specs.Prelude.{slice_get}
-use Rattle.node_registry.specs.declared.node.Node.{Node}
-use Rattle.month_pay.specs.Ledger.{Ledger, has_joined}
+use Rattle.std.proofs.lemmas.Option.{slice_get-get_or}
+use Rattle.month_pay.specs.Ledger.{has_joined}
 use Rattle.month_pay.specs.Walk.{due_in, is_good, walk}
-use Rattle.month_sums.specs.Opening.{pass_after, GoByMonth, Front, AreSmall}
+use Rattle.month_sums.specs.Opening.{pass_after, Front, AreSmall}
 use Rattle.month_sums.proofs.MonthLemmas.{due-rest, after-small, after-long}
-use Rattle.month_sums.proofs.PassLemmas.{front-next, got-index}
+use Rattle.month_sums.proofs.PassLemmas.{front-next}
 use Rattle.month_sums.proofs.opening.test_month.Goals as goal
 
 pub returns-in-Broken-clause-pass : goal.returns-in-Broken-clause-pass
@@ -19,8 +19,8 @@ returns-in-Broken-clause-pass c l keys month front =
     let pots = c.loop-j.pots in
     let in_nodes : j < length nodes = omega arith in
     let in_pots : j < length pots = omega (arith, c.loop-j.invariant.long) in
-    let at : slice_get nodes j ≡ Some node = got-index nodes j node in_nodes ∙ ap Some (sym c.index-nodes-j.is) in
-    let has = got-index pots j 0 in_pots in
+    let at : slice_get nodes j ≡ Some node = slice_get-get_or nodes j node in_nodes ∙ ap Some (sym c.index-nodes-j.is) in
+    let has = slice_get-get_or pots j 0 in_pots in
     let front_i = c.loop-j.invariant.front l month front in
     let later = due_in c.args.month.0 (drop (j + 1) nodes) ++ keys in
     c.loop-j.invariant.pass l keys month front
@@ -39,8 +39,8 @@ loop-j-preserved c =
     let pots = c.loop-j.pots in
     let in_nodes : j < length nodes = omega arith in
     let in_pots : j < length pots = omega (arith, c.loop-j.invariant.long) in
-    let at : slice_get nodes j ≡ Some node = got-index nodes j node in_nodes ∙ ap Some (sym c.index-nodes-j.is) in
-    let has = got-index pots j 0 in_pots in
+    let at : slice_get nodes j ≡ Some node = slice_get-get_or nodes j node in_nodes ∙ ap Some (sym c.index-nodes-j.is) in
+    let has = slice_get-get_or pots j 0 in_pots in
     record {
       long = ap length c.advance.ensures ∙ (after-long pots j rows i n ∙ c.loop-j.invariant.long);
       small = subst (λ (ps : List ℕ). AreSmall ps) (sym c.advance.ensures) (after-small pots j rows i n c.loop-j.invariant.small);

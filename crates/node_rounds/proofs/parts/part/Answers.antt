@@ -1,7 +1,7 @@
-use Rattle.std.proofs.Common.{Result, Option, refl, sym, ◌∙◌, subst}
+use Rattle.std.proofs.Common.{Result, Option, Some, refl, sym, ◌∙◌, subst}
 use Rattle.sat_base.specs.declared.no_memory.NoMemory.{NoMemory}
 use Rattle.machine_calls.specs.declared.reply.Reply.{Reply}
-use Rattle.sat_rounds.specs.declared.rounds.RoundEnd.{RoundEnd}
+use Rattle.sat_sessions.specs.declared.rounds.RoundEnd.{RoundEnd}
 use Rattle.node_rounds.specs.Asked.{Finds, nodes_view}
 use Rattle.node_rounds.specs.Entering.{Opens}
 use Rattle.node_rounds.specs.Parts.{kit_view}

@@ -1,5 +1,5 @@
 use Rattle.std.proofs.Common.{Option, ◌∙◌, subst}
-use Rattle.sat_rounds.specs.declared.rounds.RoundEnd.{RoundEnd}
+use Rattle.sat_sessions.specs.declared.rounds.RoundEnd.{RoundEnd}
 use Rattle.node_rounds.specs.Asked.{nodes_view}
 use Rattle.node_rounds.specs.Parts.{kit_view}
 use Rattle.node_rounds.specs.Works.{Does}

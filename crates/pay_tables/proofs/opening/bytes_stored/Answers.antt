@@ -1,12 +1,14 @@
 use Rattle.std.proofs.Common.{◌≡◌, ◌^◌, ◌<◌, Some, length, take, ap, sym, ◌∙◌, arith}
 use Rattle.std.specs.Prelude.{slice_get}
+use Rattle.std.proofs.lemmas.Option.{slice_get-get_or}
 use Rattle.sat_base.specs.Scheme.{IsScheme}
-use Rattle.month_sums.proofs.PassLemmas.{got-index}
 use Rattle.machine_step.specs.Stored.{share_of}
 use Rattle.machine_step.specs.Tables.{setup_of}
 use Rattle.pay_tables.specs.InStep.{IsShort}
-use Rattle.pay_tables.proofs.RowFacts.{each-got, each-take, sum-got, take-most}
+use Rattle.pay_tables.proofs.RowFacts.{each-take, sum-got}
 use Rattle.pay_tables.proofs.Segments.{amount-room}
+use Rattle.month_sums.proofs.Counted.{take-most}
+use Rattle.month_sums.proofs.Ready.{each-got}
 use Rattle.pay_tables.proofs.opening.bytes_stored.Goals as goal
 
 pub add_segment-requires-clause-room : goal.add_segment-requires-clause-room
@@ -16,7 +18,7 @@ add_segment-requires-clause-room c node =
     let segments = c.args.segments.now in
     let i = c.loop-i.i in
     let segment = c.index-segments-i.result in
-    let got : slice_get segments i ≡ Some segment = got-index segments i segment c.loop-i-test.true ∙ ap Some (sym c.index-segments-i.is) in
+    let got : slice_get segments i ≡ Some segment = slice_get-get_or segments i segment c.loop-i-test.true ∙ ap Some (sym c.index-segments-i.is) in
     let fits : IsScheme setup.k setup.m setup.o setup.n setup.share = record {
       rebuilds = scheme.rebuilds;
       repairs_in_time = scheme.repairs_in_time;
@@ -35,5 +37,5 @@ loop-i-preserved c node =
     let segments = c.args.segments.now in
     let i = c.loop-i.i in
     let segment = c.index-segments-i.result in
-    let got : slice_get segments i ≡ Some segment = got-index segments i segment c.loop-i-test.true ∙ ap Some (sym c.index-segments-i.is) in
+    let got : slice_get segments i ≡ Some segment = slice_get-get_or segments i segment c.loop-i-test.true ∙ ap Some (sym c.index-segments-i.is) in
     omega (arith, c.in_ok-add_segment.ensures node, c.loop-i.invariant node, sum-got (share_of setup node) segments i segment got)

@@ -1,8 +1,8 @@
 use Rattle.std.proofs.Common.{◌+◌, List, take, ap, sym, subst, ◌∙◌, refl}
 use Rattle.std.specs.Prelude.{get_or}
+use Rattle.std.proofs.lemmas.Option.{slice_get-get_or}
 use Rattle.rows.specs.Slots.{with_row}
 use Rattle.tally_payout.specs.declared.amounts.Statement.{Statement}
-use Rattle.month_sums.proofs.PassLemmas.{got-index}
 use Rattle.pay_tables.specs.declared.balance.Balance.{Balance}
 use Rattle.pay_tables.specs.Amounts.{balance_rank, GoByStatements}
 use Rattle.pay_tables.proofs.Pots.{pots-behind}
@@ -16,7 +16,7 @@ loop-statement-preserved c =
     let i = c.loop-statement.statement-index in
     let s = get_or statements i no_statement in
     let pot : Balance = record { node = s.node; amount = s.pot } in
-    let got = got-index statements i no_statement c.loop-statement-test.true in
+    let got = slice_get-get_or statements i no_statement c.loop-statement-test.true in
     let pots = c.put.ensures.rows ∙ ap (λ (rows : List Balance). with_row balance_rank rows pot) c.in_ok-place.ensures.rows in
     subst (λ (rows : List Balance). GoByStatements rows (take (i + 1) statements)) (sym pots)
     (subst (λ (rows : List Statement). GoByStatements (with_row balance_rank c.loop-statement.pots.rows pot) rows) (sym (take-got statements i s got))

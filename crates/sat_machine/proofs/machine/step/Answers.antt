@@ -2,7 +2,7 @@ use Rattle.std.proofs.Common.{IfOk, subst, sym, rules}
 use Rattle.machine_step.specs.Step.{case_of}
 use Rattle.machine_store.specs.Prepared.{Holds}
 use Rattle.machine_store.specs.Store.{tables_of}
-use Rattle.sat_machine.proofs.StepLemmas.{step-running}
+use Rattle.machine_step.proofs.StepLemmas.{step-running}
 use Rattle.sat_machine.proofs.machine.step.Goals as goal
 
 pub returns : goal.returns

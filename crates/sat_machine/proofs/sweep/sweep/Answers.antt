@@ -6,7 +6,7 @@ use Rattle.machine_step.specs.Containment.{fallen, release}
 use Rattle.machine_step.specs.Tables.{all_changed}
 use Rattle.machine_store.specs.Store.{tables_of}
 use Rattle.sat_machine.specs.Sweep.{unsettles}
-use Rattle.sat_machine.proofs.FootingLemmas.{swept-calm}
+use Rattle.sat_machine.proofs.SweptLemmas.{swept-calm}
 use Rattle.sat_machine.proofs.SweepLemmas.{released-more, swept-some}
 use Rattle.sat_machine.proofs.sweep.sweep.Goals as goal
 

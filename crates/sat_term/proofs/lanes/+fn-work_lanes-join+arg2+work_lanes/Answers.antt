@@ -8,20 +8,20 @@ use Rattle.turnstile.proofs.desk.Desk.TheSendSync as desk_is
 use Rattle.turnstile.proofs.pass.Pass.TheSendSync as pass_is
 use Rattle.sat_term.proofs.Crossing.{book_send, keys_sync, posts_send, sheet_send}
 use Rattle.sat_book.specs.declared.opening.Origin.{Origin}
-use Rattle.sat_rounds.specs.Lanes.{post_view}
-use Rattle.sat_rounds.specs.Sessions.{V}
-use Rattle.sat_rounds.specs.declared.told.Session.{Session}
+use Rattle.sat_sessions.specs.Lanes.{post_view}
+use Rattle.sat_sessions.specs.Sessions.{V}
+use Rattle.sat_sessions.specs.declared.told.Session.{Session}
 use Rattle.sat_term.proofs.Gathering.{done_none, done_more}
 use Rattle.sat_term.proofs.Rows.{two_at_least, halved, no_items}
 use Rattle.sat_term.proofs.lanes.+fn-work_lanes-join+arg2+work_lanes.Goals as goal
 
 pub returns-in-None-clause-done : goal.returns-in-None-clause-done
 returns-in-None-clause-done g t c =
-    let s = c.requires.sheet in
+    let s = c.requires.log in
     let view = post_view g.L.Lane.about g.T.Clock.coming g.W.Words.left g.W.Words.faults in
     let old : length c.args.posts.items ≡ 0 = (let a = c.args.posts.ok.0 in let b = c.in-None.ensures.cases.0 in omega arith) in
     let new : length c.pop.new.self.items ≡ 0 = (let a = c.pop.new.self.ok.0 in let b = c.in-None.ensures.cases.1 in omega arith) in
-    done_none _ _ c.args.pass _ _ c.args.sheet (ap (map view) (no_items c.args.posts.items old)) (ap (map view) (no_items c.pop.new.self.items new)) s.0 s.1 s.2
+    done_none _ _ c.args.pass _ _ c.args.log (ap (map view) (no_items c.args.posts.items old)) (ap (map view) (no_items c.pop.new.self.items new)) s.0 s.1 s.2
 
 pub split-mine-requires-clause-spare : goal.split-mine-requires-clause-spare
 split-mine-requires-clause-spare g t c =
@@ -42,7 +42,7 @@ pub join-done-requires-after_bounds : goal.join-done-requires-after_bounds
 join-done-requires-after_bounds g t c κs within =
     let one : length c.pop.new.self.items + 1 ≡ length c.args.posts.items = (let a = c.args.posts.ok.0 in let b = c.pop.new.self.ok.0 in let d = c.in-Some.ensures.cases in omega arith) in
     let spare = halved (length c.pop.new.self.items) _ _ _ one c.requires.spare (ap (λ (k : V g.row.K.Denot). k.spare) c.split-mine.ensures.kept) in
-    let blank = c.requires.sheet in (
+    let blank = c.requires.log in (
       (
         search rules,
         (

@@ -9,7 +9,7 @@ returns-clause-clauses g c =
     let d = c.close-book.ensures in
     let a0 = c.work_all-pass.ensures in
     let same = origin_same c.in-Ok.made.0 (origin_of c.args.book) (origin_of c.close-book.result) c.in-Ok.made.1 c.work_all-pass.result.pass d.base a0.gathered.base_is c.in-Ok.ensures.first in
-    whole_from g.A.RoundKit.tells g.B.RoundKit.tells g.C.RoundKit.tells c.args.keys.now c.args.term c.in-Ok.made.0 (origin_of c.args.book) c.in-Ok.made.1 c.work_all-pass.result.pass _ _ _ _ c.work_all-pass.result.sheet _ _ _ c.in-Ok.ensures.term c.in-Ok.ensures.first a0
+    whole_from g.A.RoundKit.tells g.B.RoundKit.tells g.C.RoundKit.tells c.args.keys.now c.args.term c.in-Ok.made.0 (origin_of c.args.book) c.in-Ok.made.1 c.work_all-pass.result.pass _ _ _ _ c.work_all-pass.result.log _ _ _ c.in-Ok.ensures.term c.in-Ok.ensures.first a0
     (c.close-keeper.ensures.opening ∙ ap (λ (o : Origin g.row.K.Denot). o.opening.rows) same) (c.close-keeper.ensures.history ∙ d.entries) refl refl refl refl d.lawful d.own d.full
 
 pub returns-clause-faults : goal.returns-clause-faults

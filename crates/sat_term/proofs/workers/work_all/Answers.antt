@@ -5,11 +5,11 @@ use Rattle.std.proofs.Crossing.{crosses}
 use Rattle.turnstile.proofs.desk.Desk.TheSendSync as desk_is
 use Rattle.turnstile.proofs.pass.Pass.TheSendSync as pass_is
 use Rattle.sat_term.proofs.Crossing.{book_send}
-use Rattle.sat_term.proofs.crew.Kits.TheSendSync as kits
+use Rattle.sat_term.proofs.term.Kits.TheSendSync as kits
 use Rattle.sat_book.specs.Book.{opening_of}
 use Rattle.sat_book.specs.declared.opening.Origin.{Origin}
-use Rattle.sat_rounds.specs.Rounds.{RoundsRan}
-use Rattle.sat_term.specs.Crew.{kits_view}
+use Rattle.sat_sessions.specs.Rounds.{RoundsRan}
+use Rattle.sat_term.specs.Workers.{kits_view}
 use Rattle.sat_term.proofs.Gathering.{all_done}
 use Rattle.sat_term.proofs.Rows.{three_more}
 use Rattle.sat_term.proofs.workers.work_all.Goals as goal
@@ -30,13 +30,13 @@ returns g c =
     let rounds = c.join-worked.ensures.first in
     let p = c.part-pass.ensures.parted in
     let b = c.part-pass.ensures.bases in
-    let audit = subst (λ (x : Option (Origin g.row.K.Denot)). RoundsRan (g.A.RoundKit.tells (opening_of x)) (g.A.RoundKit.view c.args.crew.kits.audit) c.part-pass.result.audit c.join-worked.result.0.audit.rounds.items c.join-worked.result.0.audit.end (g.A.RoundKit.view c.join-worked.result.0.audit.kit) c.join-worked.result.0.audit.pass) b.0 rounds.0 in
-    let repair = subst (λ (x : Option (Origin g.row.K.Denot)). RoundsRan (g.B.RoundKit.tells (opening_of x)) (g.B.RoundKit.view c.args.crew.kits.repair) c.part-pass.result.repair c.join-worked.result.0.repair.rounds.items c.join-worked.result.0.repair.end (g.B.RoundKit.view c.join-worked.result.0.repair.kit) c.join-worked.result.0.repair.pass) b.1 rounds.1.0 in
-    let tally = subst (λ (x : Option (Origin g.row.K.Denot)). RoundsRan (g.C.RoundKit.tells (opening_of x)) (g.C.RoundKit.view c.args.crew.kits.tally) c.part-pass.result.tally c.join-worked.result.0.tally.rounds.items c.join-worked.result.0.tally.end (g.C.RoundKit.view c.join-worked.result.0.tally.kit) c.join-worked.result.0.tally.pass) b.2 rounds.1.1 in
-    let nums = three_more c.join-worked.result.1.sheet.numbers.items _ _ _ c.number-audit_number.result c.number-repair_number.result c.number-tally_number.result c.push_reserved.ensures.items c.push_reserved-2.ensures.items c.push_reserved-3.ensures.items in
+    let audit = subst (λ (x : Option (Origin g.row.K.Denot)). RoundsRan (g.A.RoundKit.tells (opening_of x)) (g.A.RoundKit.view c.args.workers.kits.audit) c.part-pass.result.audit c.join-worked.result.0.audit.rounds.items c.join-worked.result.0.audit.end (g.A.RoundKit.view c.join-worked.result.0.audit.kit) c.join-worked.result.0.audit.pass) b.0 rounds.0 in
+    let repair = subst (λ (x : Option (Origin g.row.K.Denot)). RoundsRan (g.B.RoundKit.tells (opening_of x)) (g.B.RoundKit.view c.args.workers.kits.repair) c.part-pass.result.repair c.join-worked.result.0.repair.rounds.items c.join-worked.result.0.repair.end (g.B.RoundKit.view c.join-worked.result.0.repair.kit) c.join-worked.result.0.repair.pass) b.1 rounds.1.0 in
+    let tally = subst (λ (x : Option (Origin g.row.K.Denot)). RoundsRan (g.C.RoundKit.tells (opening_of x)) (g.C.RoundKit.view c.args.workers.kits.tally) c.part-pass.result.tally c.join-worked.result.0.tally.rounds.items c.join-worked.result.0.tally.end (g.C.RoundKit.view c.join-worked.result.0.tally.kit) c.join-worked.result.0.tally.pass) b.2 rounds.1.1 in
+    let nums = three_more c.join-worked.result.1.log.numbers.items _ _ _ c.number-audit_number.result c.number-repair_number.result c.number-tally_number.result c.push_reserved.ensures.items c.push_reserved-2.ensures.items c.push_reserved-3.ensures.items in
     all_done (g.A.RoundKit.tells (opening_of c.args.pass.base)) (g.B.RoundKit.tells (opening_of c.args.pass.base)) (g.C.RoundKit.tells (opening_of c.args.pass.base))
     _ _ c.args.pass p.with_repair p.with_audit c.part-pass.result.lanes c.part-pass.result.tally c.part-pass.result.repair c.part-pass.result.audit _ _ _ _ _ _ _ _ _
-    (kits_view g.A.RoundKit.view g.B.RoundKit.view g.C.RoundKit.view c.args.crew.kits) _ _ _ _
+    (kits_view g.A.RoundKit.view g.B.RoundKit.view g.C.RoundKit.view c.args.workers.kits) _ _ _ _
     c.number-audit_number.result c.number-repair_number.result c.number-tally_number.result
     (let w = c.requires.spare in omega arith) p.first p.tally_is p.tally_idle p.second p.repair_is p.repair_idle p.third p.audit_is p.audit_idle
     c.number-audit_number.ensures.number c.number-repair_number.ensures.number c.number-tally_number.ensures.number

@@ -2,12 +2,12 @@ use Rattle.std.proofs.Common.{◌≡◌, ℕ, ◌<◌, ◌^◌, false, inl, inr,
 use Rattle.std.specs.Prelude.{◌==◌}
 use Rattle.std.proofs.lemmas.Bool.Decides.{nat_tests}
 use Rattle.std.proofs.lemmas.List.Folds.{list_any_more}
+use Rattle.std.proofs.lemmas.Bool.{or_cases}
 use Rattle.sat_base.specs.declared.records.At.{At}
 use Rattle.segment_index.specs.declared.pairs.Pair.{Pair}
 use Rattle.segment_index.specs.Indexed.{has_room}
 use Rattle.segment_index.specs.Keys.{has_piece}
 use Rattle.segment_index.specs.Pairs.{has, pair_rank}
-use Rattle.segment_index.proofs.PairLemmas.{either}
 use Rattle.segment_index.proofs.Moves.{rank_low}
 use Rattle.segment_index.proofs.moving.release_pieces.Goals as goal
 
@@ -22,7 +22,7 @@ loop-piece-preserved c =
           let equal : pair_rank (record { high = node; low = other }) ≡ pair_rank (record { high = here; low = c.args.id }) = rw (← c.pair_at.ensures) e in
           apart (rank_low (record { high = node; low = other }) (record { high = here; low = c.args.id }) low id equal));
       gone = λ node lies none.
-          elim (either (has_piece node (take c.loop-piece.piece-index c.args.pieces.now)) (here == node)
+          elim (or_cases (has_piece node (take c.loop-piece.piece-index c.args.pieces.now)) (here == node)
           (sym (list_any_more (λ (piece : At). piece.node.0 == node) c.args.pieces.now c.loop-piece.piece-index no_piece c.loop-piece-test.true) ∙ lies)) [
             | inl before ↦ c.release.ensures.fewer _ (c.loop-piece.invariant.gone node before none)
             | inr now ↦

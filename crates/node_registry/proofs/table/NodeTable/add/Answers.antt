@@ -1,7 +1,6 @@
 use Rattle.std.proofs.Common.{◌≡◌, length, List, ◌++◌, ◌∷◌, [], ap, ◌∙◌, arith, length-append}
 use Rattle.node_registry.specs.declared.node.Node.{Node}
 use Rattle.node_registry.specs.Registry.{Nodes}
-use Rattle.node_registry.proofs.Known.{known-pushed}
 use Rattle.node_registry.proofs.Numbered.{counts-pushed}
 use Rattle.node_registry.proofs.table.NodeTable.add.Goals as goal
 
@@ -16,5 +15,4 @@ invariant_of-self-2 c =
     record {
       numbered = rw items (counts-pushed c.args.node nodes 1 kept.numbered (omega arith));
       within = rw items (simp length-append (omega arith));
-      known = rw items (known-pushed nodes c.args.node c.self.inside.contained.rows kept.known);
     }

@@ -1,7 +1,6 @@
 use Rattle.std.proofs.Common.{◌≡◌, ap, sym, ◌∙◌, arith, slice_set}
 use Rattle.rows.proofs.Lengths.{length-replaced}
 use Rattle.node_registry.specs.Registry.{Nodes, IsKept, with_node, node_rank}
-use Rattle.node_registry.proofs.Known.{known-replaced}
 use Rattle.node_registry.proofs.Numbered.{replaced_at, counts-replaced}
 use Rattle.node_registry.proofs.table.NodeTable.set.Goals as goal
 
@@ -9,12 +8,10 @@ pub invariant_of-self : goal.invariant_of-self
 invariant_of-self c =
     let kept = c.self.invariant in
     let nodes = c.self.inside.nodes.items in
-    let nodes_is : nodes ≡ c.args.self.now.nodes = ap (λ (t : Nodes). t.nodes) c.self.view_is in
     let replaced : slice_set nodes c.place-at.result c.args.node ≡ with_node c.args.node nodes = sym (replaced_at c.args.node nodes 1 c.place-at.result kept.numbered (omega arith)) in
-    let rest : IsKept (with_node c.args.node nodes) c.self.inside.contained.rows = record {
+    let rest : IsKept (with_node c.args.node nodes) = record {
       numbered = counts-replaced c.args.node nodes 1 kept.numbered;
       within = rw (length-replaced node_rank c.args.node nodes) kept.within;
-      known = known-replaced nodes c.args.node c.self.inside.contained.rows (rw nodes_is c.requires) kept.known;
     } in
     rw replaced rest
 

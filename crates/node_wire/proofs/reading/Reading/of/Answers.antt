@@ -1,5 +1,5 @@
 use Rattle.std.proofs.Common.{arith, rules, refl, sym, ◌≡◌, [], ◌+◌, ◌≤◌, ◌∙◌, vec_len, vec_capacity}
-use Rattle.http_edge.specs.Heads.{max_head}
+use Rattle.http_parts.specs.Heads.{max_head}
 use Rattle.node_wire.specs.Heard.{asked_len}
 use Rattle.node_wire.proofs.HeadLemmas.{lacks_nothing}
 use Rattle.node_wire.proofs.reading.Reading.of.Goals as goal

@@ -1,9 +1,0 @@
-use Rattle.std.proofs.Common.{[], false, arith}
-use Rattle.sat_base.proofs.Transfers.{took_none, took_within}
-use Rattle.http_edge.specs.Fetches.{MayReadBody}
-use Rattle.http_edge.proofs.fetch.fetch_body.Goals as goal
-
-pub returns-in_default-clause-took : goal.returns-in_default-clause-took
-returns-in_default-clause-took g c =
-    let about = g.S.Outside.about in
-    ([], took_within (MayReadBody c.args.size c.args.read.now) [] 0 1 false (about c.args.source.now) (about c.args.source.now) (omega arith) (took_none _ _), omega arith)

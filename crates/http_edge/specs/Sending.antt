@@ -1,8 +1,0 @@
--- How sending ends.
-use Rattle.std.specs.Prelude.{Bool, true, false}
-use Rattle.http_edge.specs.declared.sending.Sent.{Sent}
-use Rattle.http_edge.specs.declared.sending.Sent.TheVariants.{All, Fault}
-
-abbrev pub all_sent : Sent → Bool
-all_sent All = true
-all_sent Fault = false

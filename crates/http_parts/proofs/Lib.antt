@@ -1,0 +1,4 @@
+mod BodyLemmas
+pub mod FrontLemmas
+mod HeadLemmas
+pub mod HeaderLemmas

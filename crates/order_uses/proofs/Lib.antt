@@ -1,0 +1,10 @@
+pub mod ReadLemmas
+pub mod KeyLemmas
+pub mod PutLemmas
+pub mod LoadLemmas
+pub mod TakeLemmas
+pub mod DueLemmas
+pub mod IndexLemmas
+pub mod WalkLemmas
+pub mod CallLemmas
+pub mod KeepLemmas

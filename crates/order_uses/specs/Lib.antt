@@ -1,0 +1,11 @@
+pub mod Uses
+pub mod Rows
+pub mod Reading
+pub mod Take
+pub mod Due
+pub mod Opening
+pub mod Expiries
+pub mod Index
+pub mod Table
+pub mod View
+pub mod Calls

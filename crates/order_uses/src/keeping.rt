@@ -1,0 +1,45 @@
+// A row is put into the keeper, and only then among the rows in memory.
+ghost use Rattle.std.specs.Prelude.{◌≡◌};
+ghost use Rattle.order_uses.specs.Opening.{HasSerial};
+ghost use Rattle.order_uses.specs.View.{Commits, putting, rows_by};
+
+use crate::row::OrderUse;
+use crate::stored::put_change;
+use crate::table::UseTable;
+use sat_base::{Committed, Keeper};
+use std::alloc::Global;
+
+// Commits the row of a use.
+fn commit_row<K: Keeper>(alloc: Global, keeper: &mut K, row: &OrderUse) -> Committed
+    ensures { Commits K.faults K.is_clean K.is_open K.tells K.rows K.leaves (putting row.now) result keeper.old keeper.new }
+{
+    let Ok(changes) = put_change(alloc, row) else {
+        return Committed::NoMemory;
+    };
+    keeper.commit(alloc, &changes)
+}
+
+/// Commits a row, and puts it where that is done. Room is made before.
+pub(crate) fn keep_row<K: Keeper>(
+    alloc: Global,
+    keeper: &mut K,
+    table: &mut UseTable,
+    row: OrderUse,
+) -> Committed
+    requires { HasSerial row }
+    ensures rows { table.new.rows ≡ rows_by result table.old.rows row }
+    ensures key { table.new.key ≡ table.old.key }
+    ensures commits { Commits K.faults K.is_clean K.is_open K.tells K.rows K.leaves (putting row) result keeper.old keeper.new }
+{
+    if table.reserve().is_err() {
+        return Committed::NoMemory;
+    }
+    match commit_row(alloc, keeper, &row) {
+        Committed::Done => {
+            table.put(row);
+            Committed::Done
+        }
+        Committed::Fault => Committed::Fault,
+        Committed::NoMemory => Committed::NoMemory,
+    }
+}

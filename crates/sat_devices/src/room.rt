@@ -1,0 +1,29 @@
+// How many bytes a lane keeps.
+ghost use Rattle.std.specs.Prelude.{◌≡◌, ◌-◌, ◌^◌};
+
+use http_parts::MAX_BODY;
+
+/// How many bytes a lane keeps for its connections.
+#[derive(Clone, Copy, Debug, PartialEq, Eq)]
+pub struct Room {
+    /// Of a body, the most that are waited for. A request whose head tells of more is handed out with its head.
+    pub body: u64,
+    /// Of an answer, the most that wait for its client to take them.
+    pub answer: usize,
+    /// Of all requests and answers, but those of connections that are handed out. Where they have more, the connection
+    /// that came first of those whose requests aren't whole is closed. So it is to have room for a request of its own.
+    pub all: usize,
+}
+
+impl Room {
+    /// Room for requests whose bodies have fields, and for answers of 1 MiB, of however many connections.
+    pub fn for_fields() -> Room
+        ensures { result ≡ record { body = MAX_BODY; answer = 1048576; all = 2 ^ 64 - 1 } }
+    {
+        Room {
+            body: MAX_BODY,
+            answer: 1_048_576,
+            all: usize::MAX,
+        }
+    }
+}
