@@ -27,7 +27,7 @@ use Rattle.machine_step.specs.Step.{IsSchemeOf, risen, step}
 use Rattle.machine_step.specs.Tables.{Tables, segment_at}
 use Rattle.machine_step.proofs.Calls.PlanExit.{first-got}
 use Rattle.machine_step.proofs.Fits.{fine_found}
-use Rattle.machine_step.proofs.RowLemmas.{rising-got}
+use Rattle.machine_step.proofs.RowLemmas.{row_got}
 use Rattle.askable_plans.specs.Askable.{IsRepairable}
 use Rattle.askable_plans.proofs.Audits.{case_reply}
 use Rattle.askable_plans.proofs.Pieces.{find_below, pieces_are, rises_at, sized, some_below, some_rise}
@@ -79,7 +79,7 @@ module _ (t : Tables) (v : IsValid t) (scheme : Scheme) (own : IsSchemeOf t.setu
       of_segment node words (Some segment) is h =
           let got = first-got (filter (is_movable t node.id) t.segments) segment is in
           let kept = got-kept (is_movable t node.id) t.segments segment got.0 got.1 in
-          let at = rising-got segment_rank t.segments v.order.segments kept.1.0 segment kept.1.1 in
+          let at = row_got segment_rank t.segments v.order.segments kept.1.0 segment kept.1.1 in
           of_piece node segment words at (find (lies_on node.id) segment.pieces) refl h
 
       of_node : (found : Option Node) → (with_record found refusals.NothingToExit (plan_exit_of t time (drop 1 words))).reply ≡ replies.ExitPlanned exit sources target → IsRepairable scheme exit.plan sources (target ∷ [])

@@ -27,7 +27,7 @@ use Rattle.machine_step.specs.Tables.{Tables, segment_at}
 use Rattle.machine_step.proofs.Calls.PlanRepair.{fit_plan_repair, least-got}
 use Rattle.machine_step.proofs.Fits.{After}
 use Rattle.machine_step.proofs.Hold.{RepairHolds}
-use Rattle.machine_step.proofs.RowLemmas.{rising-got}
+use Rattle.machine_step.proofs.RowLemmas.{row_got}
 use Rattle.askable_plans.specs.Askable.{IsRepairable}
 use Rattle.askable_plans.proofs.Audits.{case_reply}
 use Rattle.askable_plans.proofs.Pieces.{below_at, pieces_are, rises_by, sized, some_below, some_rise}
@@ -87,7 +87,7 @@ module _ (t : Tables) (v : IsValid t) (scheme : Scheme) (own : IsSchemeOf t.setu
       go (Some segment) is whole h =
           let got = least-got (healthy_count t) (filter (needs_repair t) t.segments) segment is in
           let kept = got-kept (needs_repair t) t.segments segment got.0 got.1 in
-          let at = rising-got segment_rank t.segments v.order.segments kept.1.0 segment kept.1.1 in
+          let at = row_got segment_rank t.segments v.order.segments kept.1.0 segment kept.1.1 in
           let need = min (t.setup.o - length (healthy_of t segment)) (subnet_count (terms_beside t (healthy_of t segment) segment.len words)) in
           counted segment need at (has_no_plan t.marks) (need == 0) whole h
 

@@ -1,5 +1,6 @@
 // Laws of plans, as contracts of functions that do nothing.
-ghost use Rattle.std.specs.Prelude.{◌≡◌, ℕ, ◌^◌, ◌<◌, List, [], ◌∷◌};
+ghost use Rattle.std.specs.Prelude.{◌≡◌, ℕ, List, [], ◌∷◌};
+ghost use Rattle.sat_base.specs.Moments.{IsMoment};
 ghost use Rattle.sat_base.specs.declared.requests.Place.{Place};
 ghost use Rattle.sat_base.specs.declared.scheme.Scheme.{Scheme};
 ghost use Rattle.audit_core.specs.declared.plan.AuditPlan.{AuditPlan};
@@ -30,7 +31,7 @@ pub fn a_planned_recheck_can_be_asked()
 /// A planned repair can be asked at its sources, and its pieces put at its targets.
 pub fn a_planned_repair_can_be_asked()
     ensures { (t : Tables) (scheme : Scheme) (now : ℕ) (words : List ℕ) (plan : RepairPlan) (sources targets : List Place)
-        → IsValid t → now < 2 ^ 36 → IsSchemeOf t.setup scheme
+        → IsValid t → IsMoment now → IsSchemeOf t.setup scheme
         → (step t (calls.Own now (tasks.PlanRepair words))).reply ≡ replies.RepairPlanned plan sources targets
         → IsRepairable scheme plan sources targets }
 {}

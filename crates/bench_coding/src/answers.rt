@@ -12,7 +12,12 @@ pub enum Spread {
     EveryByte,
     /// One, in another column for each answer.
     OneByte,
+    /// Five that cancel in every combination of columns that the decoder tries, in other columns for each answer.
+    Cancelling,
 }
+
+// The coefficients of the polynomial whose roots are the four bases of the decoder's combinations.
+const ROOTS: [u8; 5] = [90, 167, 151, 107, 1];
 
 // Random bytes, by a linear congruence (Knuth, "The Art of Computer Programming", 3.3.4).
 #[derive(Drop)]
@@ -39,11 +44,23 @@ pub fn sample(alloc: Global, len: usize) -> Result<Vec<u8>, AllocError>
     Ok(bytes)
 }
 
-// Alters each byte, or the one in this column.
-fn alter(bytes: &mut [u8], spread: Spread, column: usize, random: &mut Random) {
+// Alters each byte, or those of the answer of this place among the altered ones.
+fn alter(bytes: &mut [u8], spread: Spread, place: usize, random: &mut Random) {
+    if spread == Spread::Cancelling {
+        return add_roots(bytes, place.wrapping_mul(ROOTS.len()));
+    }
     for c in 0..bytes.len() {
-        if spread == Spread::EveryByte || c == column {
+        if spread == Spread::EveryByte || c == place {
             bytes[c] ^= random.byte() | 1;
+        }
+    }
+}
+
+// Adds the coefficients from this column on.
+fn add_roots(bytes: &mut [u8], column: usize) {
+    for d in 0..ROOTS.len() {
+        if let Some(byte) = bytes.get_mut(column.wrapping_add(d)) {
+            *byte ^= ROOTS[d];
         }
     }
 }

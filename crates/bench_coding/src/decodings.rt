@@ -62,7 +62,12 @@ pub fn run(rt: &HostRuntime, timing: bool) -> Result<()> {
     };
     let stripe = sample(alloc, usize::from(scheme.k) * usize::from(scheme.share))?;
     let original = stripe.as_slice();
-    for (name, spread) in [("every", Spread::EveryByte), ("one", Spread::OneByte)] {
+    let spreads = [
+        ("every", Spread::EveryByte),
+        ("one", Spread::OneByte),
+        ("cancelling", Spread::Cancelling),
+    ];
+    for (name, spread) in spreads {
         for (altered, rounds) in CASES {
             let answers = altered_answers(alloc, &scheme, original, altered, spread)?;
             let case = Case {

@@ -1,6 +1,6 @@
 // A keeper that has rows when it is opened, and drops what is committed, so that calls cost what the machine takes and the
 // spelling of its rows.
-ghost use Rattle.std.specs.Prelude.{◌≡◌, ◌-◌, ◌^◌, []};
+ghost use Rattle.std.specs.Prelude.{◌≡◌, ◌-◌, []};
 ghost use Rattle.sat_base.specs.Rows.{Rows, AreInOrder, rows_of};
 
 use sat_base::{Change, Committed, Items, Keeper, KeeperMem, Loaded, NoMemory, Row};
@@ -8,9 +8,6 @@ use std::alloc::Global;
 use std::marker::Model;
 use std::mem;
 use trial_lines::BoundedBook;
-
-/// The entries that a book has room for.
-pub(crate) const TERM: u64 = 65_536;
 
 /// A book over such a keeper.
 pub(crate) type Asked = BoundedBook<DroppingKeeper>;
@@ -49,17 +46,14 @@ impl DroppingKeeper {
 }
 
 impl Keeper for DroppingKeeper {
-    ghost faults = { λ _. 0 };
-
-    ghost is_clean = { λ _. Unit {0} };
-
-    ghost is_open = { λ _. Unit {0} };
-
-    ghost tells = { λ _. ⊥ };
-
-    ghost rows = { λ _. rows_of [] };
-
-    ghost leaves = { λ _ _. ⊥ };
+    ghost about = { λ _. record {
+      faults = 0;
+      is_clean = Unit {0};
+      is_open = Unit {0};
+      tells = ⊥;
+      rows = rows_of [];
+      leaves = λ _. ⊥;
+    } };
 
     ghost leaves_no_other = { λ k m _ tells _. absurd tells };
 

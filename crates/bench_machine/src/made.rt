@@ -111,11 +111,6 @@ fn node(size: Size, place: u64) -> Node {
     let id = node_of(size, place);
     let is_last = place == size.calls.saturating_add(1);
     Node {
-        id,
-        addr: id.0.wrapping_mul(256),
-        port: 28967,
-        free: 1 << 50,
-        joined: now(),
         alpha: if is_last { 6_000 } else { 10_000 },
         beta: if is_last { 3_999 } else { 0 },
         passes: if place % 10 == 0 { 0 } else { 100 },
@@ -124,6 +119,7 @@ fn node(size: Size, place: u64) -> Node {
         } else {
             Status::Active
         },
+        ..Node::joining(id, id.0.wrapping_mul(256), 28967, 1 << 50, now())
     }
 }
 

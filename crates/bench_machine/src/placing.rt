@@ -24,16 +24,10 @@ fn sample(alloc: Global, number: u32, subnets: u32) -> Result<NodeTable>
     let mut table = NodeTable::new(alloc);
     for i in 0..number {
         let id = table.len() as u32 + 1;
+        let addr = (i.wrapping_mul(2654435761) % subnets) << 8;
         let node = Node {
-            id: NodeId(id),
-            addr: (i.wrapping_mul(2654435761) % subnets) << 8,
-            port: 28967,
-            free: 1 << 40,
-            joined: Moment::of(5),
-            alpha: 1000,
-            beta: 0,
             passes: (i & 1) * 100,
-            status: Status::Active,
+            ..Node::joining(NodeId(id), addr, 28967, 1 << 40, Moment::of(5))
         };
         if table.add(node).is_err() {
             return Err(anyhow!("a node isn't added"));

@@ -1,12 +1,12 @@
 // A store that is asked calls of every kind.
 use crate::calls::{Answer, Kind, ask, read_alone};
-use crate::dropping::{Asked, DroppingKeeper, TERM};
+use crate::dropping::{Asked, DroppingKeeper};
 use crate::made::{SECRET, Size, changes};
 use crate::{fold, months, upkeep};
 use anyhow::{Result, bail};
 use audit_core::Checked;
 use order_limits::Keys;
-use sat_base::NodeId;
+use sat_base::{NodeId, limits};
 use std::alloc::Global;
 use std::time::{Clock, Instant};
 
@@ -56,7 +56,7 @@ impl Outcome {
 fn open(clock: &impl Clock, alloc: Global, size: Size) -> Result<(Asked, u128)> {
     let keeper = DroppingKeeper::of(alloc, &changes(alloc, size)?)?;
     let start = Instant::now(clock)?;
-    match Asked::open(alloc, keeper, TERM) {
+    match Asked::open(alloc, keeper, limits::TERM) {
         Ok(book) => Ok((book, start.elapsed(clock)?.as_nanos())),
         Err(_) => bail!("the rows make no book"),
     }

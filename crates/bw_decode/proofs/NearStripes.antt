@@ -1,4 +1,4 @@
--- Stripes near answers, column by column.
+-- Stripes near answers, by the values of a linear form.
 use Rattle.std.proofs.Common.{ℕ, zero, suc, ◌≡◌, ◌<◌, ◌≤◌, ◌+◌, ◌*◌, ◌/◌, ◌%◌, refl, sym, ap, ◌∙◌, subst, List, [], ◌∷◌, length, get_or, ◌⊎◌, inl, inr, arith, lit<, cond, true, false, not, Bool, slice_index, eq-eqb, All}
 use Rattle.std.proofs.Math.Nat.{mul-le-mul_left, mod-lt}
 use Rattle.std.proofs.lemmas.Nat.{div-add-mod'}
@@ -17,8 +17,10 @@ use Rattle.rs_stripe.proofs.SegmentLemmas.{length-share_of, share_byte}
 use Rattle.rs_stripe.proofs.ShareLemmas.{share_data}
 use Rattle.bw_decode.specs.Near.{IsNearData, IsNear, Rises}
 use Rattle.bw_decode.specs.Altered.{is_altered, indexes_of}
-use Rattle.bw_decode.specs.Answers.{byte_of, bytes_of}
+use Rattle.bw_decode.specs.Answers.{value_of, values_of, row_value}
+use Rattle.bw_decode.specs.Forms.{IsLinear, at_column}
 use Rattle.bw_decode.proofs.Counts.{differences_counted}
+use Rattle.bw_decode.proofs.Forms.{column_linear, form_interpolated}
 use Rattle.bw_decode.proofs.Locator.{same_codeword, rising_apart}
 
 -- ---- one answer
@@ -47,13 +49,16 @@ altered_unless k size s a h = go (is_altered k size s a) refl
     go true t = refl
     go false t = absurd (h (not_altered k size s a t))
 
--- its byte in a column is the column's share
-pub right_byte : (k size c : ℕ) (s : List ℕ) (a : Share) → c < size → a.bytes ≡ share_of k size s a.index
-    → byte_of size c a ≡ share k (λ i. slice_index s (i * size + c)) a.index
-right_byte k size c s a h e =
+-- its value is the share of the rows' values
+pub right_value : (k size : ℕ) (F : (ℕ → ℕ) → ℕ) (s : List ℕ) (a : Share) → IsLinear size F
+    → a.bytes ≡ share_of k size s a.index → value_of size F a ≡ share k (row_value size s F) a.index
+right_value k size F s a linear e =
     let len : length a.bytes ≡ size = ap length e ∙ length-share_of k size s a.index in
-    ap (λ b. cond b (slice_index a.bytes c) 0) (eq-eqb (length a.bytes) size len)
-    ∙ ap (λ bytes. slice_index bytes c) e ∙ share_byte k size s a.index c h
+    ap (λ b. cond b (F (slice_index a.bytes)) 0) (eq-eqb (length a.bytes) size len)
+    ∙ ap (λ bytes. F (slice_index bytes)) e
+    ∙ linear.same (slice_index (share_of k size s a.index)) (λ c. share k (λ l. slice_index s (l * size + c)) a.index)
+    (λ c h. share_byte k size s a.index c h)
+    ∙ form_interpolated size F linear k (λ i. i) (λ l c. slice_index s (l * size + c)) a.index
 
 -- ---- lists of answers
 pub index_at : (answers : List Share) (i : ℕ) (a : Share) → i < length answers
@@ -62,23 +67,23 @@ index_at [] i a h = absurd (omega arith)
 index_at (x ∷ xs) zero a h = refl
 index_at (x ∷ xs) (suc i) a h = index_at xs i a (omega arith)
 
-pub byte_at : (size c : ℕ) (answers : List Share) (i : ℕ) (a : Share) → i < length answers
-    → slice_index (bytes_of size c answers) i ≡ byte_of size c (get_or answers i a)
-byte_at size c [] i a h = absurd (omega arith)
-byte_at size c (x ∷ xs) zero a h = refl
-byte_at size c (x ∷ xs) (suc i) a h = byte_at size c xs i a (omega arith)
+pub value_at : (size : ℕ) (F : (ℕ → ℕ) → ℕ) (answers : List Share) (i : ℕ) (a : Share) → i < length answers
+    → slice_index (values_of size F answers) i ≡ value_of size F (get_or answers i a)
+value_at size F [] i a h = absurd (omega arith)
+value_at size F (x ∷ xs) zero a h = refl
+value_at size F (x ∷ xs) (suc i) a h = value_at size F xs i a (omega arith)
 
--- each column of a near stripe is near
-pub column_near : (k size c : ℕ) (s : List ℕ) (answers : List Share) → c < size → IsNear k size s answers
-    → IsNearData (length answers) k (slice_index (indexes_of answers)) (slice_index (bytes_of size c answers))
-    (λ i. slice_index s (i * size + c))
-column_near k size c s answers h near =
+-- the values of a near stripe are near
+pub values_near : (k size : ℕ) (F : (ℕ → ℕ) → ℕ) (s : List ℕ) (answers : List Share) → IsLinear size F → IsNear k size s answers
+    → IsNearData (length answers) k (slice_index (indexes_of answers)) (slice_index (values_of size F answers))
+    (row_value size s F)
+values_near k size F s answers linear near =
     let few = differences_counted (is_altered k size s) answers
-    (λ i. share k (λ l. slice_index s (l * size + c)) (slice_index (indexes_of answers) i))
-    (slice_index (bytes_of size c answers))
-    (λ i a l t. ap (share k (λ l. slice_index s (l * size + c))) (index_at answers i a l)
-    ∙ sym (right_byte k size c s (get_or answers i a) h (not_altered k size s (get_or answers i a) t))
-    ∙ sym (byte_at size c answers i a l)) in
+    (λ i. share k (row_value size s F) (slice_index (indexes_of answers) i))
+    (slice_index (values_of size F answers))
+    (λ i a l t. ap (share k (row_value size s F)) (index_at answers i a l)
+    ∙ sym (right_value k size F s (get_or answers i a) linear (not_altered k size s (get_or answers i a) t))
+    ∙ sym (value_at size F answers i a l)) in
     le_of few near.few
   where
     le_of : {a b c : ℕ} → a ≤ b → b ≤ c → a ≤ c
@@ -120,16 +125,16 @@ indexes_apart answers rising =
     subst (λ n. Apart n (slice_index (indexes_of answers))) (indexes_length answers)
     (rising_apart (indexes_of answers) rising)
 
--- the codewords of one column
-pub same_column : (k size c : ℕ) (s : List ℕ) (answers : List Share) (d : ℕ → ℕ)
-    → Rises (indexes_of answers) → AreBytes (length answers) (slice_index (indexes_of answers)) → c < size
+-- the codewords of one form's values
+pub same_values : (k size : ℕ) (F : (ℕ → ℕ) → ℕ) (s : List ℕ) (answers : List Share) (d : ℕ → ℕ)
+    → Rises (indexes_of answers) → AreBytes (length answers) (slice_index (indexes_of answers)) → IsLinear size F
     → IsNear k size s answers
-    → IsNearData (length answers) k (slice_index (indexes_of answers)) (slice_index (bytes_of size c answers)) d
-    → (x : ℕ) → share k d x ≡ share k (λ i. slice_index s (i * size + c)) x
-same_column k size c s answers d rising bytes h near_s near_d x =
-    same_codeword (length answers) k (slice_index (indexes_of answers)) (slice_index (bytes_of size c answers)) d
-    (λ i. slice_index s (i * size + c)) (indexes_apart answers rising) bytes near_s.enough near_d
-    (column_near k size c s answers h near_s) x
+    → IsNearData (length answers) k (slice_index (indexes_of answers)) (slice_index (values_of size F answers)) d
+    → (x : ℕ) → share k d x ≡ share k (row_value size s F) x
+same_values k size F s answers d rising bytes linear near_s near_d x =
+    same_codeword (length answers) k (slice_index (indexes_of answers)) (slice_index (values_of size F answers)) d
+    (row_value size s F) (indexes_apart answers rising) bytes near_s.enough near_d
+    (values_near k size F s answers linear near_s) x
 
 pub one_near : (k size : ℕ) (s t : List ℕ) (answers : List Share) → k ≤ 256
     → Rises (indexes_of answers) → All (λ j. j < 256) (indexes_of answers)
@@ -142,9 +147,9 @@ one_near k size s t answers small rising points len_s bytes_s len_t bytes_t near
     at_each : (l c : ℕ) → l < k → c < size → slice_index s (l * size + c) ≡ slice_index t (l * size + c)
     at_each l c hl hc =
         sym (share_data k l (λ i. slice_index s (i * size + c)) small (λ i h. byte_within s bytes_s (i * size + c)) hl)
-        ∙ same_column k size c t answers (λ i. slice_index s (i * size + c)) rising
-        (λ i h. byte_within (indexes_of answers) points i) hc near_t
-        (column_near k size c s answers hc near_s) l
+        ∙ same_values k size (at_column c) t answers (λ i. slice_index s (i * size + c)) rising
+        (λ i h. byte_within (indexes_of answers) points i) (column_linear size c hc) near_t
+        (values_near k size (at_column c) s answers (column_linear size c hc) near_s) l
         ∙ share_data k l (λ i. slice_index t (i * size + c)) small (λ i h. byte_within t bytes_t (i * size + c)) hl
 
     each : (p : ℕ) → p < k * size → slice_index s p ≡ slice_index t p

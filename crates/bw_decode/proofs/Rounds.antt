@@ -11,7 +11,7 @@ use Rattle.gf256.proofs.Laws.{product_comm}
 use Rattle.gf256.proofs.Sums.{total_agree}
 use Rattle.gf_linear.specs.Polynomial.{Apart}
 use Rattle.gf_linear.specs.Lagrange.{interpolated}
-use Rattle.gf_linear.proofs.Lagrange.{AreBytes, lagrange_poly, lagrange_only}
+use Rattle.gf_linear.proofs.Lagrange.{AreBytes, lagrange_agree, lagrange_poly, lagrange_only}
 use Rattle.rs_stripe.specs.Codeword.{share}
 use Rattle.rs_stripe.specs.Segment.{share_of}
 use Rattle.rs_stripe.specs.Weights.{weight}
@@ -19,10 +19,12 @@ use Rattle.rs_stripe.proofs.SegmentLemmas.{share_byte, length-share_of}
 use Rattle.rs_stripe.proofs.ShareLemmas.{weight_agree}
 use Rattle.bw_decode.specs.Near.{IsNearData, IsNear, Rises}
 use Rattle.bw_decode.specs.Altered.{is_altered, indexes_of}
-use Rattle.bw_decode.specs.Answers.{byte_of, bytes_of, marked, AreKnown, AreRight, AreChosen, IsPredicted, column_share, Disagrees, IsBlamed}
+use Rattle.bw_decode.specs.Answers.{values_of, byte_of, bytes_of, row_value, marked, AreKnown, AreRight, AreChosen, IsPredicted, column_share, Disagrees, DisagreesIn, IsBlamed}
+use Rattle.bw_decode.specs.Forms.{IsLinear, at_column, combined}
 use Rattle.bw_decode.proofs.Locator.{data_of}
+use Rattle.bw_decode.proofs.Forms.{form_zero, form_interpolated, column_linear, combined_linear}
 use Rattle.bw_decode.proofs.Counts.{count_fewer, count_more, count_both}
-use Rattle.bw_decode.proofs.NearStripes.{altered_unless, right_byte, index_at, byte_at, column_near, same_column, indexes_length}
+use Rattle.bw_decode.proofs.NearStripes.{altered_unless, right_value, index_at, value_at, values_near, same_values, indexes_length}
 
 -- ---- points
 pub index_below : (n : ℕ) (answers : List Share) → All (λ j. j < n) (indexes_of answers) → (i : ℕ) (a : Share)
@@ -58,18 +60,18 @@ few_rising n xs rising below = go (length xs) refl
         let last_least : last ≤ slice_index xs last = at_least last (omega arith) in
         omega arith
 
--- ---- a column that is decoded
--- where no data are near in a column, no stripe is near
-pub none_near : (k size c : ℕ) (answers : List Share) (points values : List ℕ)
-    → points ≡ indexes_of answers → values ≡ bytes_of size c answers → c < size
+-- ---- values that are decoded
+-- where no data are near a form's values, no stripe is near
+pub none_near : (k size : ℕ) (F : (ℕ → ℕ) → ℕ) (answers : List Share) (points values : List ℕ)
+    → points ≡ indexes_of answers → values ≡ values_of size F answers → IsLinear size F
     → ((d : ℕ → ℕ) → IsNearData (length points) k (slice_index points) (slice_index values) d → ⊥)
     → (s : List ℕ) → IsNear k size s answers → ⊥
-none_near k size c answers points values ep ev h none s near =
-    none (λ i. slice_index s (i * size + c))
-    (subst (λ xs. IsNearData (length xs) k (slice_index xs) (slice_index values) (λ i. slice_index s (i * size + c))) (sym ep)
-    (subst (λ ys. IsNearData (length (indexes_of answers)) k (slice_index (indexes_of answers)) (slice_index ys) (λ i. slice_index s (i * size + c))) (sym ev)
-    (subst (λ n. IsNearData n k (slice_index (indexes_of answers)) (slice_index (bytes_of size c answers)) (λ i. slice_index s (i * size + c)))
-    (sym (indexes_length answers)) (column_near k size c s answers h near))))
+none_near k size F answers points values ep ev linear none s near =
+    none (row_value size s F)
+    (subst (λ xs. IsNearData (length xs) k (slice_index xs) (slice_index values) (row_value size s F)) (sym ep)
+    (subst (λ ys. IsNearData (length (indexes_of answers)) k (slice_index (indexes_of answers)) (slice_index ys) (row_value size s F)) (sym ev)
+    (subst (λ n. IsNearData n k (slice_index (indexes_of answers)) (slice_index (values_of size F answers)) (row_value size s F))
+    (sym (indexes_length answers)) (values_near k size F s answers linear near))))
 
 or_false : (a b : Bool) → a ≡ false → (a || b) ≡ b
 or_false true b e = cc
@@ -81,14 +83,14 @@ off a b e same = false_true (sym (ap not (eq-eqb a b same)) ∙ e)
     false_true : false ≡ true → ⊥
     false_true e = cc
 
--- the marks that a column's near data add are known too
-pub known_after : (k size c : ℕ) (answers : List Share) (d : ℕ → ℕ) (old new : List Bool)
-    → Rises (indexes_of answers) → AreBytes (length answers) (slice_index (indexes_of answers)) → c < size
+-- the marks that near data add are known too
+pub known_after : (k size : ℕ) (F : (ℕ → ℕ) → ℕ) (answers : List Share) (d : ℕ → ℕ) (old new : List Bool)
+    → Rises (indexes_of answers) → AreBytes (length answers) (slice_index (indexes_of answers)) → IsLinear size F
     → length old ≡ length answers → AreKnown k size answers old
-    → IsNearData (length answers) k (slice_index (indexes_of answers)) (slice_index (bytes_of size c answers)) d
-    → IsBlamed k d (slice_index (indexes_of answers)) (slice_index (bytes_of size c answers)) old new
+    → IsNearData (length answers) k (slice_index (indexes_of answers)) (slice_index (values_of size F answers)) d
+    → IsBlamed k d (slice_index (indexes_of answers)) (slice_index (values_of size F answers)) old new
     → AreKnown k size answers new
-known_after k size c answers d old new rising bytes hc len known near_d blamed = record {
+known_after k size F answers d old new rising bytes linear len known near_d blamed = record {
   lengths = λ i a h wrong. blamed i (omega arith) ∙ or_left (get_or old i false) _ (known.lengths i a h wrong);
   altered = λ s near i a h mark. each s near i a h mark (get_or old i false) refl;
 }
@@ -97,7 +99,7 @@ known_after k size c answers d old new rising bytes hc len known near_d blamed =
     X = slice_index (indexes_of answers)
 
     Y : ℕ → ℕ
-    Y = slice_index (bytes_of size c answers)
+    Y = slice_index (values_of size F answers)
 
     each : (s : List ℕ) → IsNear k size s answers → (i : ℕ) (a : Share) → i < length answers → get_or new i false ≡ true
         → (b : Bool) → get_or old i false ≡ b → is_altered k size s (get_or answers i a) ≡ true
@@ -107,9 +109,9 @@ known_after k size c answers d old new rising bytes hc len known near_d blamed =
         off (share k d (X i)) (Y i) (sym (or_false (get_or old i false) _ t) ∙ sym (blamed i (omega arith)) ∙ mark) in
         altered_unless k size s (get_or answers i a)
         (λ e. differs
-        (same_column k size c s answers d rising bytes hc near near_d (X i)
-        ∙ ap (share k (λ l. slice_index s (l * size + c))) (index_at answers i a h)
-        ∙ sym (right_byte k size c s (get_or answers i a) hc e) ∙ sym (byte_at size c answers i a h)))
+        (same_values k size F s answers d rising bytes linear near near_d (X i)
+        ∙ ap (share k (row_value size s F)) (index_at answers i a h)
+        ∙ sym (right_value k size F s (get_or answers i a) linear e) ∙ sym (value_at size F answers i a h)))
 
 -- two functions agree at each place below n, or differ at one
 agree_or_differ : (n : ℕ) (f g : ℕ → ℕ) → ((i : ℕ) → i < n → f i ≡ g i) ⊎ ((i : ℕ) × (i < n) × (f i ≢ g i))
@@ -131,22 +133,52 @@ agree_or_differ (suc n) f g = go (agree_or_differ n f g) (eqb (f n) (g n)) refl
             let last : n ≡ i = omega arith in
             subst (λ k. f k ≡ g k) last (eqb-true (f n) (g n) t)
 
--- where the stripe that the chosen answers predict is not the share of some answer in a column, some
--- answer that isn't marked is off the codeword of any data of that column
-pub off_somewhere : (k size c : ℕ) (stripe : List ℕ) (answers : List Share) (marks : List Bool) (places : List ℕ) (d : ℕ → ℕ)
+-- the value of what is read in each column of an answer
+column_values : (size : ℕ) (F : (ℕ → ℕ) → ℕ) (answers : List Share) (i : ℕ) → IsLinear size F → i < length answers
+    → F (λ c. slice_index (bytes_of size c answers) i) ≡ slice_index (values_of size F answers) i
+column_values size F (x ∷ xs) zero linear h = go (eqb (length x.bytes) size)
+  where
+    go : (b : Bool) → F (λ c. cond b (slice_index x.bytes c) 0) ≡ cond b (F (slice_index x.bytes)) 0
+    go true = refl
+    go false = form_zero size F linear
+column_values size F (x ∷ xs) (suc i) linear h = column_values size F xs i linear (omega arith)
+column_values size F [] i linear h = absurd (omega arith)
+
+-- the rows' values in the stripe that the chosen answers predict
+predicted_value : (size : ℕ) (F : (ℕ → ℕ) → ℕ) (stripe : List ℕ) (answers : List Share) (places : List ℕ) (l : ℕ)
+    → IsLinear size F → ((j : ℕ) → j < length places → slice_index places j < length answers)
+    → IsPredicted size answers places stripe → l < length places
+    → row_value size stripe F l
+    ≡ interpolated (length places) (λ j. slice_index (indexes_of answers) (slice_index places j))
+    (λ j. slice_index (values_of size F answers) (slice_index places j)) l
+predicted_value size F stripe answers places l linear within predicted h =
+    linear.same (λ c. slice_index stripe (l * size + c)) (λ c. interpolated (length places) P (λ j. slice_index (bytes_of size c answers) (slice_index places j)) l)
+    (λ c hc. predicted l c h hc)
+    ∙ form_interpolated size F linear (length places) P (λ j c. slice_index (bytes_of size c answers) (slice_index places j)) l
+    ∙ lagrange_agree (length places) P (λ j. F (λ c. slice_index (bytes_of size c answers) (slice_index places j)))
+    (λ j. slice_index (values_of size F answers) (slice_index places j))
+    (λ j hj. column_values size F answers (slice_index places j) linear (within j hj)) l
+  where
+    P : ℕ → ℕ
+    P j = slice_index (indexes_of answers) (slice_index places j)
+
+-- where the value of some answer is not that of the share of the stripe that the chosen answers predict, some
+-- answer that isn't marked is off the codeword of any data
+pub off_somewhere : (k size : ℕ) (F : (ℕ → ℕ) → ℕ) (stripe : List ℕ) (answers : List Share) (marks : List Bool) (places : List ℕ) (d : ℕ → ℕ)
+    → IsLinear size F
     → k ≤ 256 → Rises (indexes_of answers) → AreBytes (length answers) (slice_index (indexes_of answers))
     → length marks ≡ length answers → length places ≡ k → AreChosen marks places
-    → IsPredicted size answers places stripe → Disagrees k size stripe answers marks c
+    → IsPredicted size answers places stripe → Disagrees k size stripe answers marks F
     → (i : ℕ) × (i < length answers) × (get_or marks i false ≡ false)
-    × (share k d (slice_index (indexes_of answers) i) ≢ slice_index (bytes_of size c answers) i)
-off_somewhere k size c stripe answers marks places d small rising bytes len len_k chosen predicted dis =
+    × (share k d (slice_index (indexes_of answers) i) ≢ slice_index (values_of size F answers) i)
+off_somewhere k size F stripe answers marks places d linear small rising bytes len len_k chosen predicted dis =
     go (agree_or_differ k (λ j. share k d (P j)) V)
   where
     X : ℕ → ℕ
     X = slice_index (indexes_of answers)
 
     Y : ℕ → ℕ
-    Y = slice_index (bytes_of size c answers)
+    Y = slice_index (values_of size F answers)
 
     P : ℕ → ℕ
     P j = X (slice_index places j)
@@ -169,10 +201,11 @@ off_somewhere k size c stripe answers marks places d small rising bytes len len_
         cases (inl h) = omega (arith, rise j l h hl)
         cases (inr h) = omega (arith, rise l j (omega arith) hj)
 
-    same : ((j : ℕ) → j < k → share k d (P j) ≡ V j) → (x : ℕ) → column_share k size stripe c x ≡ share k d x
+    same : ((j : ℕ) → j < k → share k d (P j) ≡ V j) → (x : ℕ) → share k (row_value size stripe F) x ≡ share k d x
     same all x =
-        data_of k P V (λ l. slice_index stripe (l * size + c)) small
-        (λ l h. subst (λ n. slice_index stripe (l * size + c) ≡ interpolated n P V l) len_k (predicted l c (omega arith) dis.column)) x
+        data_of k P V (row_value size stripe F) small
+        (λ l h. subst (λ n. row_value size stripe F l ≡ interpolated n P V l) len_k
+        (predicted_value size F stripe answers places l linear (λ j hj. within j (omega arith)) predicted (omega arith))) x
         ∙ lagrange_only k P V apart (λ j h. bytes (slice_index places j) (within j h)) (lagrange_poly k (λ i. i) d) all x
 
     go : ((j : ℕ) → j < k → share k d (P j) ≡ V j) ⊎ ((j : ℕ) × (j < k) × (share k d (P j) ≢ V j))
@@ -287,60 +320,90 @@ differs_there k size c stripe row a whole is len found =
 pub disagrees_there : (k size : ℕ) (stripe : List ℕ) (answers : List Share) (marks : List Bool) (i : ℕ) (a : Share) (c : ℕ)
     → i < length answers → get_or marks i false ≡ false
     → (c < size) × (column_share k size stripe c (get_or answers i a).index ≢ byte_of size c (get_or answers i a))
-    → Disagrees k size stripe answers marks c
-disagrees_there k size stripe answers marks i a c h unmarked found = record {
-  place = i;
-  column = found.0;
-  within = h;
-  unmarked = unmarked;
-  differs = λ e. found.1 (ap (column_share k size stripe c) (sym (index_at answers i a h)) ∙ e ∙ byte_at size c answers i a h);
-}
+    → DisagreesIn k size stripe answers marks c
+disagrees_there k size stripe answers marks i a c h unmarked found = (
+  found.0,
+  record {
+    place = i;
+    within = h;
+    unmarked = unmarked;
+    differs = λ e. found.1 (ap (column_share k size stripe c) (sym (index_at answers i a h)) ∙ e ∙ value_at size (at_column c) answers i a h);
+  },
+)
+
+-- ---- values that disagree
+pub combined_disagrees : (k size : ℕ) (factors stripe values column : List ℕ) (answers : List Share) (marks : List Bool)
+    → length factors ≡ size → length column ≡ k → values ≡ values_of (length factors) (combined factors) answers
+    → ((l : ℕ) → l < length column → slice_index column l ≡ row_value (length factors) stripe (combined factors) l)
+    → (i : ℕ) × (i < length answers) × (get_or marks i false ≡ false)
+    × (share k (slice_index column) (slice_index (indexes_of answers) i) ≢ slice_index values i)
+    → (F : (ℕ → ℕ) → ℕ) × IsLinear size F × (values ≡ values_of size F answers) × Disagrees k size stripe answers marks F
+combined_disagrees k size factors stripe values column answers marks len len_k ev rows off =
+    subst (λ n. (F : (ℕ → ℕ) → ℕ) × IsLinear n F × (values ≡ values_of n F answers) × Disagrees k n stripe answers marks F) len (
+      combined factors,
+      combined_linear factors,
+      ev,
+      record {
+        place = off.0;
+        within = off.1;
+        unmarked = off.2;
+        differs = λ e. off.3 (lagrange_agree k (λ i. i) (slice_index column) (row_value (length factors) stripe (combined factors))
+            (λ l h. rows l (omega arith)) (slice_index (indexes_of answers) off.0)
+            ∙ e ∙ ap (λ ys. slice_index ys off.0) (sym ev));
+      },
+    )
+
+pub column_disagrees : (k size c : ℕ) (stripe values : List ℕ) (answers : List Share) (marks : List Bool)
+    → values ≡ bytes_of size c answers → DisagreesIn k size stripe answers marks c
+    → (F : (ℕ → ℕ) → ℕ) × IsLinear size F × (values ≡ values_of size F answers) × Disagrees k size stripe answers marks F
+column_disagrees k size c stripe values answers marks ev dis =
+    (at_column c, column_linear size c dis.0, ev, dis.1)
 
 -- ---- a round, over the lists that it read
-near_listed : (k size c : ℕ) (answers : List Share) (points values : List ℕ) (d : ℕ → ℕ)
-    → points ≡ indexes_of answers → values ≡ bytes_of size c answers
+near_listed : (k size : ℕ) (F : (ℕ → ℕ) → ℕ) (answers : List Share) (points values : List ℕ) (d : ℕ → ℕ)
+    → points ≡ indexes_of answers → values ≡ values_of size F answers
     → IsNearData (length points) k (slice_index points) (slice_index values) d
-    → IsNearData (length answers) k (slice_index (indexes_of answers)) (slice_index (bytes_of size c answers)) d
-near_listed k size c answers points values d ep ev near =
-    subst (λ n. IsNearData n k (slice_index (indexes_of answers)) (slice_index (bytes_of size c answers)) d) (indexes_length answers)
+    → IsNearData (length answers) k (slice_index (indexes_of answers)) (slice_index (values_of size F answers)) d
+near_listed k size F answers points values d ep ev near =
+    subst (λ n. IsNearData n k (slice_index (indexes_of answers)) (slice_index (values_of size F answers)) d) (indexes_length answers)
     (subst (λ ys. IsNearData (length (indexes_of answers)) k (slice_index (indexes_of answers)) (slice_index ys) d) ev
     (subst (λ xs. IsNearData (length xs) k (slice_index xs) (slice_index values) d) ep near))
 
-blamed_listed : (k size c : ℕ) (answers : List Share) (points values : List ℕ) (d : ℕ → ℕ) (old new : List Bool)
-    → points ≡ indexes_of answers → values ≡ bytes_of size c answers
+blamed_listed : (k size : ℕ) (F : (ℕ → ℕ) → ℕ) (answers : List Share) (points values : List ℕ) (d : ℕ → ℕ) (old new : List Bool)
+    → points ≡ indexes_of answers → values ≡ values_of size F answers
     → IsBlamed k d (slice_index points) (slice_index values) old new
-    → IsBlamed k d (slice_index (indexes_of answers)) (slice_index (bytes_of size c answers)) old new
-blamed_listed k size c answers points values d old new ep ev blamed =
+    → IsBlamed k d (slice_index (indexes_of answers)) (slice_index (values_of size F answers)) old new
+blamed_listed k size F answers points values d old new ep ev blamed =
     subst (λ ys. IsBlamed k d (slice_index (indexes_of answers)) (slice_index ys) old new) ev
     (subst (λ xs. IsBlamed k d (slice_index xs) (slice_index values) old new) ep blamed)
 
-pub round_known : (n k size c : ℕ) (answers : List Share) (points values : List ℕ) (d : ℕ → ℕ) (old new : List Bool)
-    → points ≡ indexes_of answers → values ≡ bytes_of size c answers → Rises points
-    → n ≤ 256 → All (λ j. j < n) points → c < size
+pub round_known : (n k size : ℕ) (F : (ℕ → ℕ) → ℕ) (answers : List Share) (points values : List ℕ) (d : ℕ → ℕ) (old new : List Bool)
+    → points ≡ indexes_of answers → values ≡ values_of size F answers → Rises points
+    → n ≤ 256 → All (λ j. j < n) points → IsLinear size F
     → length old ≡ length answers → AreKnown k size answers old
     → IsNearData (length points) k (slice_index points) (slice_index values) d
     → IsBlamed k d (slice_index points) (slice_index values) old new
     → AreKnown k size answers new
-round_known n k size c answers points values d old new ep ev rising small below hc len known near blamed =
-    known_after k size c answers d old new (subst Rises ep rising)
-    (index_bytes n answers small (subst (λ xs. All (λ j. j < n) xs) ep below)) hc len known
-    (near_listed k size c answers points values d ep ev near)
-    (blamed_listed k size c answers points values d old new ep ev blamed)
+round_known n k size F answers points values d old new ep ev rising small below linear len known near blamed =
+    known_after k size F answers d old new (subst Rises ep rising)
+    (index_bytes n answers small (subst (λ xs. All (λ j. j < n) xs) ep below)) linear len known
+    (near_listed k size F answers points values d ep ev near)
+    (blamed_listed k size F answers points values d old new ep ev blamed)
 
-pub round_marks : (n k size c : ℕ) (answers : List Share) (points values : List ℕ) (d : ℕ → ℕ) (old new : List Bool)
+pub round_marks : (n k size : ℕ) (F : (ℕ → ℕ) → ℕ) (answers : List Share) (points values : List ℕ) (d : ℕ → ℕ) (old new : List Bool)
     (stripe places : List ℕ)
-    → points ≡ indexes_of answers → values ≡ bytes_of size c answers → Rises points
-    → n ≤ 256 → k ≤ 256 → All (λ j. j < n) points
+    → points ≡ indexes_of answers → values ≡ values_of size F answers → Rises points
+    → n ≤ 256 → k ≤ 256 → All (λ j. j < n) points → IsLinear size F
     → length old ≡ length answers → length new ≡ length old
     → length places ≡ k → AreChosen old places → IsPredicted size answers places stripe
-    → Disagrees k size stripe answers old c
+    → Disagrees k size stripe answers old F
     → IsBlamed k d (slice_index points) (slice_index values) old new
     → marked old < marked new
-round_marks n k size c answers points values d old new stripe places ep ev rising small small_k below len len_new len_k chosen predicted dis blamed =
-    let w = off_somewhere k size c stripe answers old places d small_k (subst Rises ep rising)
+round_marks n k size F answers points values d old new stripe places ep ev rising small small_k below linear len len_new len_k chosen predicted dis blamed =
+    let w = off_somewhere k size F stripe answers old places d linear small_k (subst Rises ep rising)
     (index_bytes n answers small (subst (λ xs. All (λ j. j < n) xs) ep below)) len len_k chosen predicted dis in
-    more_marked k d (slice_index (indexes_of answers)) (slice_index (bytes_of size c answers)) old new (sym len_new)
-    (blamed_listed k size c answers points values d old new ep ev blamed) w.0 (omega (arith, w.1)) w.2 w.3
+    more_marked k d (slice_index (indexes_of answers)) (slice_index (values_of size F answers)) old new (sym len_new)
+    (blamed_listed k size F answers points values d old new ep ev blamed) w.0 (omega (arith, w.1)) w.2 w.3
 
 -- ---- the first round
 pub few_answers : (n : ℕ) (answers : List Share) → Rises (indexes_of answers) → All (λ j. j < n) (indexes_of answers)

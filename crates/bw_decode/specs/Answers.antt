@@ -1,14 +1,23 @@
--- A column of the answers, and which of the answers are known to be altered.
+-- What a linear form reads of the answers, and which of the answers are known to be altered.
 use Rattle.std.specs.Prelude.{◌≡◌, ◌≢◌, ℕ, ◌+◌, ◌*◌, ◌<◌, cond, eqb, Bool, true, false, not, ◌||◌, List, length, map, get_or, slice_index, slice_index_or, count_by}
 use Rattle.sat_base.specs.declared.items.Share.{Share}
 use Rattle.gf_linear.specs.Lagrange.{interpolated}
 use Rattle.rs_stripe.specs.Codeword.{share}
 use Rattle.bw_decode.specs.Altered.{is_altered, indexes_of}
 use Rattle.bw_decode.specs.Near.{IsNear, Rises}
+use Rattle.bw_decode.specs.Forms.{at_column}
+
+-- the form's value of the answer, or 0 where its length is wrong
+abbrev pub value_of : ℕ → ((ℕ → ℕ) → ℕ) → Share → ℕ
+value_of size F answer = cond (eqb (length answer.bytes) size) (F (slice_index answer.bytes)) 0
+
+-- that value of each answer
+abbrev pub values_of : ℕ → ((ℕ → ℕ) → ℕ) → List Share → List ℕ
+values_of size F answers = map (value_of size F) answers
 
 -- byte c of the answer, or 0 where its length is wrong
 abbrev pub byte_of : ℕ → ℕ → Share → ℕ
-byte_of size c answer = cond (eqb (length answer.bytes) size) (slice_index answer.bytes c) 0
+byte_of size c answer = value_of size (at_column c) answer
 
 -- that byte of each answer
 abbrev pub bytes_of : ℕ → ℕ → List Share → List ℕ
@@ -54,21 +63,29 @@ IsPredicted size answers places stripe =
     ≡ interpolated (length places) (λ j. slice_index (indexes_of answers) (slice_index places j))
     (λ j. slice_index (bytes_of size c answers) (slice_index places j)) l
 
+-- the form's value of row l of the stripe
+abbrev pub row_value : ℕ → List ℕ → ((ℕ → ℕ) → ℕ) → ℕ → ℕ
+row_value size stripe F l = F (λ c. slice_index stripe (l * size + c))
+
 -- share j of column c of the stripe
 abbrev pub column_share : ℕ → ℕ → List ℕ → ℕ → ℕ → ℕ
-column_share k size stripe c j = share k (λ l. slice_index stripe (l * size + c)) j
+column_share k size stripe c j = share k (row_value size stripe (at_column c)) j
 
--- the answer at place i isn't marked, and isn't the stripe's share in column c
+-- an answer isn't marked, and its value isn't that of the stripe's share
 pub record Disagrees
-    (k size : ℕ) (stripe : List ℕ) (answers : List Share) (marks : List Bool) (c : ℕ)
+    (k size : ℕ) (stripe : List ℕ) (answers : List Share) (marks : List Bool) (F : (ℕ → ℕ) → ℕ)
     : Type 0 where
   pub place : ℕ
-  pub column : c < size
   pub within : place < length answers
   pub unmarked : slice_index_or marks place false ≡ false
   pub differs :
-      column_share k size stripe c (slice_index (indexes_of answers) place)
-      ≢ slice_index (bytes_of size c answers) place
+      share k (row_value size stripe F) (slice_index (indexes_of answers) place)
+      ≢ slice_index (values_of size F answers) place
+
+-- so is one in column c
+abbrev pub DisagreesIn : ℕ → ℕ → List ℕ → List Share → List Bool → ℕ → Type 0
+DisagreesIn k size stripe answers marks c =
+    (c < size) × Disagrees k size stripe answers marks (at_column c)
 
 -- beside the old marks there are those of the answers off the codeword of the data d, whose points
 -- and values are X and Y

@@ -5,7 +5,7 @@ ghost use Rattle.rs_stripe.specs.Segment.{share_of};
 ghost use Rattle.rs_stripe.specs.Weights.{AreDivisors};
 ghost use Rattle.bw_decode.specs.Altered.{is_altered, indexes_of};
 ghost use Rattle.bw_decode.specs.Room.{IsHeldBy};
-ghost use Rattle.bw_decode.specs.Answers.{bytes_of, byte_of, marked, column_share, AreRight, Disagrees, IsBlamed};
+ghost use Rattle.bw_decode.specs.Answers.{bytes_of, byte_of, marked, column_share, AreRight, DisagreesIn, IsBlamed};
 
 use crate::decoding::MOST_POINTS;
 use gf256::same;
@@ -13,7 +13,7 @@ use rs_stripe::{Encoder, encode_column_with, encode_share_with, find_share_divis
 use sat_base::{Scheme, Share};
 
 // The most bytes of a share.
-const LONGEST_SHARE: usize = 1024;
+pub(crate) const LONGEST_SHARE: usize = 1024;
 
 // Reads the indexes of the answers.
 pub(crate) fn read_indexes(answers: &[Share], points: &mut [u8])
@@ -176,7 +176,7 @@ pub(crate) fn find_disagreement(
         → slice_index_or blamed.now i false ≡ false
         → length (get_or answers.now i a).bytes ≡ scheme.now.share }
     ensures some { IfSome result (λ c.
-        Disagrees scheme.now.k scheme.now.share stripe.now answers.now blamed.now c) }
+        DisagreesIn scheme.now.k scheme.now.share stripe.now answers.now blamed.now c) }
     ensures none { IfNone result
         (AreRight scheme.now.k scheme.now.share stripe.now answers.now blamed.now) }
 {
@@ -211,7 +211,7 @@ pub(crate) fn find_early_disagreement(
         → slice_index_or blamed.now i false ≡ false
         → length (get_or answers.now i a).bytes ≡ scheme.now.share }
     ensures { IfSome result (λ c.
-        Disagrees scheme.now.k scheme.now.share stripe.now answers.now blamed.now c) }
+        DisagreesIn scheme.now.k scheme.now.share stripe.now answers.now blamed.now c) }
 {
     let mut divisors_room = [0; MOST_POINTS];
     let mut share_room = [0; LONGEST_SHARE];

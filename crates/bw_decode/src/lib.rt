@@ -33,18 +33,23 @@
 //! A stripe is near r answers where at most e = (r - k) div 2 of them are altered: their bytes are
 //! not the stripe's share at their index, or not as many. There is one near stripe at most
 //! ([`one_near_stripe`]). To solve a system for each column would find it. But mostly few answers
-//! are altered, and in many columns at once, so that a few systems do:
+//! are altered, so that a few systems do:
 //!
 //! 1. Some answers are known to be altered: at first those of wrong length. Where they are more
 //!    than e, no stripe is near.
 //! 2. The first k of the others predict the whole stripe, by sums of whole rows. Where the others
 //!    are all its shares, it is near, as only the known ones are altered, and it is found.
-//! 3. Else some other answer differs from the prediction in some column, and that column is
-//!    decoded. An answer of wrong length counts as a 0 there. Where nothing is near, no stripe is,
-//!    as each column of a near stripe is near. Else the codeword that is near is that of the column
-//!    in every near stripe, and each answer off it is known to be altered from then on. One more at
-//!    least is: had all the others the codeword's values, then those that predicted would have
-//!    predicted it, and none had differed. Then 1 again.
+//! 3. Else some other answer differs from the prediction in some column. Then one column of values is
+//!    decoded: mostly a combination of all columns, the sum of each answer's bytes times factors, one
+//!    factor for each column. The factors are the powers of one of four elements of the field. As
+//!    encoding is linear, a combination of a stripe's shares is a codeword, that of the combination
+//!    of its rows. So an answer that is altered in whatever column is off it, unless its alterations
+//!    cancel. Only a combination is taken in which some other answer differs from the prediction, and
+//!    where none of the four is one, the single column is. An answer of wrong length counts as a 0
+//!    there. Where nothing is near, no stripe is, as a near stripe's values are near too. Else the
+//!    codeword that is near is that of every near stripe, and each answer off it is known to be
+//!    altered from then on. One more at least is: had all the others the codeword's values, then
+//!    those that predicted would have predicted it, and none had differed. Then 1 again.
 //!
 //! So the count of solved systems, which [`Scratch`] keeps, rises by at most e + 1, and not at all below
 //! k answers. That nothing is solved beside the count is not a clause.
@@ -55,6 +60,7 @@
 
 mod answers;
 pub mod column;
+mod combination;
 mod decoding;
 mod laws;
 mod outcome;

@@ -5,7 +5,7 @@ ghost use Rattle.sat_base.specs.Outside.{raised};
 ghost use Rattle.bw_decode.specs.Room.{Room, IsEncoderOf};
 ghost use Rattle.bw_decode.specs.Near.{IsNearData, Rises};
 ghost use Rattle.bw_decode.specs.Altered.{indexes_of};
-ghost use Rattle.bw_decode.specs.Answers.{AreRight, Disagrees};
+ghost use Rattle.bw_decode.specs.Answers.{AreRight, DisagreesIn};
 
 use crate::answers::{find_disagreement, find_early_disagreement};
 use crate::decoding::decode;
@@ -111,7 +111,7 @@ impl Scratch {
         ensures points { self.new.points ≡ self.old.points }
         ensures solves { self.new.solves ≡ self.old.solves }
         ensures some { IfSome result (λ c.
-            Disagrees scheme.now.k scheme.now.share stripe.now answers.now blamed.now c) }
+            DisagreesIn scheme.now.k scheme.now.share stripe.now answers.now blamed.now c) }
         ensures none { IfNone result
             (AreRight scheme.now.k scheme.now.share stripe.now answers.now blamed.now) }
     {

@@ -3,10 +3,9 @@ ghost use Rattle.bw_decode.specs.Near.{IsNear, Rises};
 ghost use Rattle.bw_decode.specs.Altered.{is_altered, indexes_of};
 ghost use Rattle.bw_decode.specs.Answers.{marked, AreKnown, AreRight};
 
-use crate::answers::{
-    count_marked, mark_off_codeword, mark_wrong_lengths, read_bytes, read_indexes,
-};
+use crate::answers::{count_marked, mark_off_codeword, mark_wrong_lengths, read_indexes};
 use crate::column::column;
+use crate::combination::read_disagreement;
 use crate::decoding::MOST_POINTS;
 use crate::outcome::{Column, Nearness};
 use crate::prediction::predict;
@@ -25,7 +24,7 @@ enum Round {
 }
 
 // Tries the stripe that the unmarked answers predict. Where one of them disagrees, it decodes a
-// column, to mark more.
+// combination of the columns, or one of them, to mark more.
 fn decode_round(
     scratch: &mut Scratch,
     scheme: &Scheme,
@@ -65,7 +64,7 @@ fn decode_round(
     let mut data_room = [0; MOST_POINTS];
     let values = &mut values_room[..answers.len()];
     let data = &mut data_room[..k];
-    read_bytes(answers, size, c, values);
+    read_disagreement(scheme, answers, blamed, out, c, values);
     match column(scratch, points, values, scheme.k, data) {
         Column::Unclear => Round::Unclear,
         Column::Near => {

@@ -82,7 +82,7 @@ asked (commands.Drill start calls) = drill start calls
 abbrev pub IsWithin : Command → Type 0
 IsWithin (commands.Judge k share) = (1 ≤ k) × (k ≤ bounds.JUDGED) × (1 ≤ share) × (share ≤ limits.SHARE)
 IsWithin (commands.Serve store port lanes term tick) =
-    ((1 ≤ port) × (port ≤ bounds.PORT)) × ((1 ≤ lanes) × (lanes ≤ bounds.LANES)) × ((1 ≤ term) × (term ≤ bounds.TERM))
+    ((1 ≤ port) × (port ≤ bounds.PORT)) × ((1 ≤ lanes) × (lanes ≤ bounds.LANES)) × ((1 ≤ term) × (term ≤ limits.TERM))
     × ((1 ≤ tick) × (tick ≤ bounds.TICK))
 IsWithin (commands.Sheet store month) = IsMonthWithin month.0
 IsWithin (commands.Drill start calls) = (1 ≤ calls) × (calls ≤ bounds.CALLS)
@@ -258,7 +258,7 @@ serve_of words =
     if is_form serve_names words
     then serve_with (value_of (codes "--store") words) (number_within 1 bounds.PORT (value_of (codes "--port") words))
     (number_or 1 1 bounds.LANES (value_of (codes "--lanes") words))
-    (number_or bounds.TERM 1 bounds.TERM (value_of (codes "--term") words))
+    (number_or limits.TERM 1 limits.TERM (value_of (codes "--term") words))
     (number_or bounds.USUAL_TICK 1 bounds.TICK (value_of (codes "--tick") words))
     else None
 

@@ -1,5 +1,6 @@
 -- What the words of a command say, as they were read.
 use Rattle.std.specs.Prelude.{◌≤◌}
+use Rattle.sat_base.specs.declared.limits.TheConstants as limits
 use Rattle.command_line.specs.declared.init.InitWords.{InitWords}
 use Rattle.command_line.specs.declared.init.Choices.{Choices}
 use Rattle.command_line.specs.declared.serve.ServeWords.{ServeWords}
@@ -37,4 +38,4 @@ sheet_said words = record { store = words.store.now; month = words.month.0 }
 abbrev pub AreWithin : ServeWords → Type 0
 AreWithin words =
     ((1 ≤ words.port) × (words.port ≤ bounds.PORT)) × ((1 ≤ words.lanes) × (words.lanes ≤ bounds.LANES))
-    × ((1 ≤ words.term) × (words.term ≤ bounds.TERM)) × ((1 ≤ words.tick) × (words.tick ≤ bounds.TICK))
+    × ((1 ≤ words.term) × (words.term ≤ limits.TERM)) × ((1 ≤ words.tick) × (words.tick ≤ bounds.TICK))

@@ -9,9 +9,6 @@ pub const PORT: u16 = 65_520;
 /// The lanes of a server.
 pub const LANES: u16 = 16;
 
-/// The entries of a term.
-pub const TERM: u64 = 65_536;
-
 /// The calls of a drill.
 pub const CALLS: u64 = 20_000;
 

@@ -6,7 +6,7 @@ ghost use Rattle.command_line.specs.Words.{AreWithin, serve_said};
 use crate::bounds;
 use crate::pairs::{has_form, value};
 use crate::values::{number_in, number_or_in};
-use sat_base::Line;
+use sat_base::{Line, limits};
 
 /// What `serve` is asked for.
 #[derive(Clone, Copy, Debug)]
@@ -31,7 +31,7 @@ pub(crate) fn serve_in<'a>(line: &'a Line) -> Option<ServeWords<'a>>
     let store = value(line, "--store", 1)?;
     let port = number_in(1, u64::from(bounds::PORT), value(line, "--port", 1))?;
     let lanes = number_or_in(1, 1, u64::from(bounds::LANES), value(line, "--lanes", 1))?;
-    let term = number_or_in(bounds::TERM, 1, bounds::TERM, value(line, "--term", 1))?;
+    let term = number_or_in(limits::TERM, 1, limits::TERM, value(line, "--term", 1))?;
     let usual = u64::from(bounds::USUAL_TICK);
     let tick = number_or_in(usual, 1, u64::from(bounds::TICK), value(line, "--tick", 1))?;
     Some(ServeWords {

@@ -1,8 +1,7 @@
 -- Refusals, as the JSON of their answers: a name, a number and the evidence, with the keys in byte order.
-use Rattle.std.specs.Prelude.{ℕ, List, codes, ◌==◌, if◌then◌else◌}
+use Rattle.std.specs.Prelude.{ℕ, List, codes}
 use Rattle.month_text.specs.MonthText.{month_text}
 use Rattle.serde_json.specs.Data.{Data, Members, number, unsigned, string, object, member, no_members, put}
-use Rattle.machine_calls.specs.Numbers.{number_of}
 use Rattle.machine_calls.specs.declared.refusal.Refusal.{Refusal}
 use Rattle.machine_calls.specs.declared.refusal.Refusal.TheVariants as refusals
 use Rattle.machine_calls.specs.declared.refusal.TableName.{TableName}
@@ -74,4 +73,5 @@ refusal_data (refusals.MonthBegun now) = with_text (codes "month-begun") 34 (cod
 
 -- 503 where the machine was stopped, and else 409
 abbrev pub refusal_status : Refusal → ℕ
-refusal_status refusal = if number_of refusal == 27 then 503 else 409
+refusal_status refusals.Stopped = 503
+refusal_status _ = 409

@@ -53,10 +53,9 @@ fn status_of(reply: &Reply) -> StatusCode
 fn status_of_refusal(refusal: &Refusal) -> StatusCode
     ensures { result ≡ refusal_status refusal.now }
 {
-    if refusal.number() == 27 {
-        StatusCode::SERVICE_UNAVAILABLE
-    } else {
-        StatusCode::CONFLICT
+    match refusal {
+        Refusal::Stopped => StatusCode::SERVICE_UNAVAILABLE,
+        _ => StatusCode::CONFLICT,
     }
 }
 

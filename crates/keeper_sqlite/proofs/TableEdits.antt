@@ -29,7 +29,7 @@ use Rattle.keeper_sqlite.specs.Table.{record_table, record_schema}
 use Rattle.keeper_sqlite.specs.Records.{stored, AreRecords, key_in, entry_in}
 use Rattle.keeper_sqlite.proofs.ValueTests.{conflict_is, cast_again}
 use Rattle.keeper_sqlite.proofs.StoredRows.{AreIdsOf, left_records, left_lacks, left_finds, put_records, put_finds}
-use Rattle.keeper_sqlite.proofs.Querying.{has_mapped}
+use Rattle.keeper_sqlite.proofs.Querying.{has_mapped, mapped_has}
 use Rattle.sat_base.proofs.Tests.{equal}
 
 -- a part that gave a value did not stop on the way
@@ -39,11 +39,6 @@ went (inr on) = on
 
 pub same_value : {B E : Type 0} {a b : B} → ◌≡◌ {A = Result B E} (Ok a) (Ok b) → a ≡ b
 same_value e = cc
-
-mapped_has : {X Y : Type 0} (f : X → Y) (xs : List X) (x : X) → Has xs x → Has (map f xs) (f x)
-mapped_has f [] x h = absurd h
-mapped_has f (y ∷ xs) x (inl h) = inl (ap f h)
-mapped_has f (y ∷ xs) x (inr h) = inr (mapped_has f xs x h)
 
 -- what a changed table is, by what it has at each key
 pub inserted : (old new : List Row) (k : Key) (v : List ℕ) → ((q : Key) → find key_cmp q (map entry_in new) ≡ cond (eq_by_cmp key_cmp q k) (Some v) (find key_cmp q (map entry_in old)))

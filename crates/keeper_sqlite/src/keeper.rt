@@ -82,17 +82,14 @@ impl<S: Alter> KeeperSqlite<S> {
 impl<S: Alter + Drop> Keeper for KeeperSqlite<S> {
     ghost use Rattle.keeper_sqlite.specs.Shown.{connection_of, state_of, faults_of, rows_kept, StandsOpen, TellsRows, MayLeave};
 
-    ghost faults = { λ k. faults_of k };
-
-    ghost is_clean = { λ k. HasCleanDisk (state_of k) };
-
-    ghost is_open = { λ k. StandsOpen k };
-
-    ghost tells = { λ k. TellsRows k };
-
-    ghost rows = { λ k. rows_kept k };
-
-    ghost leaves = { λ k m. MayLeave k m };
+    ghost about = { λ k. record {
+      faults = faults_of k;
+      is_clean = HasCleanDisk (state_of k);
+      is_open = StandsOpen k;
+      tells = TellsRows k;
+      rows = rows_kept k;
+      leaves = MayLeave k;
+    } };
 
     ghost leaves_no_other = { λ k m up told h. rows_of_commit _ _ m h.2 (S.Store.settled (connection_of k).store h.0 up.1 h.1) };
 

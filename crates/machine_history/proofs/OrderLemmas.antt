@@ -52,33 +52,20 @@ use Rattle.machine_step.specs.Tables.{Setup, Tables, changed, all_changed}
 use Rattle.machine_step.proofs.OrderFits.{order_is, good_of}
 use Rattle.machine_step.proofs.ReleaseLemmas.{releases_are}
 use Rattle.machine_step.proofs.RowLemmas.{row_at-with_row}
-use Rattle.machine_step.proofs.Touches.{kind_of, kinds_of, touched, frame}
+use Rattle.machine_step.proofs.Touches.{kinds_of, touched, frame}
 use Rattle.machine_history.specs.History.{Said, IsLegal, IsRight, replay, taken}
 use Rattle.machine_history.specs.Orders.{AreOfBytes, HasBytes, IfSettled, IsFirst, SettleOnce, SettlesAs}
 use Rattle.machine_history.proofs.HistoryLemmas.{follows_all, legal-append, replay-append}
+use Rattle.machine_calls.specs.Changes.{kind_changed}
 
 -- ---- rows of settled orders stay
 
-leaves-settled : (c : RecChange) (t : Tables) → (kind_of c == 6) ≡ false → (changed t c).settled ≡ t.settled
-leaves-settled (changes.Settings r) t other = refl
-leaves-settled (changes.Marks r) t other = refl
-leaves-settled (changes.Node r) t other = refl
-leaves-settled (changes.Customer r) t other = refl
-leaves-settled (changes.Segment r) t other = refl
+leaves-settled : (c : RecChange) (t : Tables) → (kind_changed c == 6) ≡ false → (changed t c).settled ≡ t.settled
 leaves-settled (changes.SettledRow r) t other = cc
-leaves-settled (changes.Tally r) t other = refl
-leaves-settled (changes.Statement r) t other = refl
-leaves-settled (changes.AuditPlan r) t other = refl
-leaves-settled (changes.RecheckPlan r) t other = refl
-leaves-settled (changes.RepairPlan r) t other = refl
-leaves-settled (changes.Containment r) t other = refl
-leaves-settled (changes.Kept r) t other = refl
-leaves-settled (changes.ExitPlan r) t other = refl
-leaves-settled (changes.Left r) t other = refl
-leaves-settled (changes.Tariff r) t other = refl
 leaves-settled (changes.Remove (keys.Segment id)) t other = refl
 leaves-settled (changes.Remove (keys.Plan kind)) t other = refl
 leaves-settled (changes.Remove (keys.Containment node)) t other = refl
+leaves-settled _ t other = refl
 
 -- a call settles, or leaves the rows
 settles_or : (call : Call) → (is_among (kinds_of call) 6 ≡ false) ⊎ ((now : ℕ) × (words : List ℕ) × (node : NodeId) × (bytes : List ℕ) × (call ≡ calls.Asked now words (wishes.Settle node bytes)))

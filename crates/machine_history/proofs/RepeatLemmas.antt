@@ -130,25 +130,10 @@ known_first t r done _ e h o = cc
 
 -- the mark that stops is no record
 pub stopped_by : (t : Tables) (change : RecChange) → (changed t change).stopped ≡ t.stopped
-stopped_by t (changes.Settings m) = refl
-stopped_by t (changes.Marks m) = refl
-stopped_by t (changes.Node m) = refl
-stopped_by t (changes.Customer m) = refl
-stopped_by t (changes.Segment m) = refl
-stopped_by t (changes.SettledRow m) = refl
-stopped_by t (changes.Tally m) = refl
-stopped_by t (changes.Statement m) = refl
-stopped_by t (changes.AuditPlan m) = refl
-stopped_by t (changes.RecheckPlan m) = refl
-stopped_by t (changes.RepairPlan m) = refl
-stopped_by t (changes.Containment m) = refl
-stopped_by t (changes.Kept m) = refl
-stopped_by t (changes.ExitPlan m) = refl
-stopped_by t (changes.Left m) = refl
-stopped_by t (changes.Tariff m) = refl
 stopped_by t (changes.Remove (keys.Segment id)) = refl
 stopped_by t (changes.Remove (keys.Plan kind)) = refl
 stopped_by t (changes.Remove (keys.Containment node)) = refl
+stopped_by t _ = refl
 
 pub stopped_stays : (cs : List RecChange) (t : Tables) → (all_changed t cs).stopped ≡ t.stopped
 stopped_stays [] t = refl

@@ -3,6 +3,7 @@ use Rattle.std.proofs.Common.{◌≡◌, ℕ, ◌+◌, Bool, true, false, not, L
 use Rattle.std.specs.Prelude.{if◌then◌else◌, ◌==◌, map, filter, filter_map, option_to_list}
 use Rattle.std.specs.List.{cons_option}
 use Rattle.std.proofs.lemmas.Bool.Decides.{nat_tests}
+use Rattle.sat_base.specs.declared.limits.TheConstants as limits
 use Rattle.sat_base.specs.declared.kinds.TheConstants as kinds
 use Rattle.sat_base.specs.declared.ids.NodeId.{NodeId}
 use Rattle.sat_base.specs.declared.records.At.{At}
@@ -42,7 +43,7 @@ use Rattle.machine_step.specs.Calls.EndRecheck.{is_as_planned, only, settled_as,
 use Rattle.machine_step.specs.Calls.EndExit.{open_move}
 use Rattle.machine_step.specs.Calls.PlanExit.{lies_on}
 use Rattle.machine_step.specs.Bounds.{IsValid}
-use Rattle.machine_step.proofs.RowLemmas.{found_rank}
+use Rattle.machine_step.proofs.RowLemmas.{rank-found}
 use Rattle.machine_step.proofs.ReleaseLemmas.{changed-append, releases_are}
 use Rattle.machine_step.proofs.Batches.{puts_of, nodes-put}
 use Rattle.machine_step.proofs.ApartLemmas.{apart-among}
@@ -119,14 +120,14 @@ module _ (t : Tables) (v : IsValid t) (id : NodeId) where
     marks_ended : (checked : Checked) → RecheckExact now plan checked (recheck_ended t (risen t now) checked c)
     marks_ended checks.Pass = settled_marks (risen t now) c Pass ∙ same_test (Pass ∷ [])
     marks_ended checks.Fail = settled_marks (risen t now) c Fail ∙ same_test (Fail ∷ [])
-    marks_ended checks.Silent = silent (c.tries + 1 == 3) refl
+    marks_ended checks.Silent = silent (c.tries + 1 == limits.TRIES) refl
       where
         none : (b : Bool) → node_at t.nodes id ≡ rated (if b then [] else []) (node_at t.nodes id)
         none true = sym (unrated (node_at t.nodes id))
         none false = sym (unrated (node_at t.nodes id))
 
-        silent : (b : Bool) → (c.tries + 1 == 3) ≡ b
-            → IsExact t id (marks_in id (calls.Own now (tasks.EndRecheck plan checks.Silent)) (replies.RecheckEnded checks.Silent (c.tries + 1))) (recheck_closed t (risen t now) (if c.tries + 1 == 3 then settled_as t c Fail else changes.Containment (record c { tries = c.tries + 1 }) ∷ []) checks.Silent (c.tries + 1))
+        silent : (b : Bool) → (c.tries + 1 == limits.TRIES) ≡ b
+            → IsExact t id (marks_in id (calls.Own now (tasks.EndRecheck plan checks.Silent)) (replies.RecheckEnded checks.Silent (c.tries + 1))) (recheck_closed t (risen t now) (if c.tries + 1 == limits.TRIES then settled_as t c Fail else changes.Containment (record c { tries = c.tries + 1 }) ∷ []) checks.Silent (c.tries + 1))
         silent true is =
             ap (λ (b : Bool). node_at (all_changed t (recheck_closed t (risen t now) (if b then settled_as t c Fail else changes.Containment (record c { tries = c.tries + 1 }) ∷ []) checks.Silent (c.tries + 1)).changes).nodes id) is
             ∙ settled_marks (risen t now) c Fail ∙ same_test (Fail ∷ [])
@@ -142,7 +143,7 @@ module _ (t : Tables) (v : IsValid t) (id : NodeId) where
       at : (found : Option Containment) → contained_at t.containments plan.node ≡ found → (b : Bool) → RecheckExact now plan checked (if_found (if b then found else None) (recheck_void t (risen t now)) (recheck_ended t (risen t now) checked))
       at found is false = sym (unrated (node_at t.nodes id))
       at None is true = sym (unrated (node_at t.nodes id))
-      at (Some c) is true = marks_ended now plan c (found_rank containment_rank t.containments plan.node.0 c is) checked
+      at (Some c) is true = marks_ended now plan c (rank-found containment_rank t.containments plan.node.0 c is) checked
 
       owed : (found : Option Containment) → contained_at t.containments plan.node ≡ found → RecheckExact now plan checked (if_found (only (is_as_planned plan) found) (recheck_void t (risen t now)) (recheck_ended t (risen t now) checked))
       owed None is = sym (unrated (node_at t.nodes id))

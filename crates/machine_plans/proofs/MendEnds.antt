@@ -39,7 +39,7 @@ use Rattle.machine_step.specs.Calls.PlanRepair.{needs_repair, to_repair, terms_b
 use Rattle.machine_step.specs.Calls.EndExit.{move_of, open_move}
 use Rattle.machine_step.specs.Calls.PlanExit.{exiting_nodes, lies_on, is_movable, node_exited, target_at, exit_to, exit_from, exit_segment, plan_exit_of, plan_exit}
 use Rattle.machine_step.specs.Bounds.{IsValid}
-use Rattle.machine_step.proofs.RowLemmas.{row_at-with_row, found_rank, rising-got}
+use Rattle.machine_step.proofs.RowLemmas.{row_at-with_row, rank-found, row_got}
 use Rattle.machine_step.proofs.IndexLemmas.{rising-some}
 use Rattle.machine_step.proofs.Drawn.{among-self}
 use Rattle.machine_step.proofs.Touches.{segments-frame, of-nodes}
@@ -77,7 +77,7 @@ module _ (t : Tables) (v : IsValid t) (time : ℕ) (le : t.marks.time ≤ time) 
       let c = m.can found at version in
       let after_it = mended_segment found mended in
       let rows : next.segments ≡ with_row segment_rank t.segments after_it = segments ∙ ap (λ (o : Outcome). (all_changed t o.changes).segments) is ∙ put_segments t time kind mended found in
-      let own : found.id.0 ≡ mended.plan.segment.0 = found_rank segment_rank t.segments mended.plan.segment.0 found at in
+      let own : found.id.0 ≡ mended.plan.segment.0 = rank-found segment_rank t.segments mended.plan.segment.0 found at in
       let same : segment_at (with_row segment_rank t.segments after_it) mended.plan.segment.0 ≡ Some after_it = grind (arith, nat_tests, own, row_at-with_row segment_rank t.segments after_it mended.plan.segment.0) in
       let planned : found.version ≡ mended.plan.version = c.version in
       let good = λ (piece : At). has_piece (kept_sources mended) piece || has_piece (placed_targets mended) piece in
@@ -129,7 +129,7 @@ module _ (t : Tables) (v : IsValid t) (now : ℕ) (mended : Mended) where
 found_by : (t : Tables) (v : IsValid t) (test : SegmentRecord → Bool) (place : ℕ) (segment : SegmentRecord) → slice_get (filter test t.segments) place ≡ Some segment → segment_at t.segments segment.id.0 ≡ Some segment
 found_by t v test place segment is =
     let kept = got-kept test t.segments segment place is in
-    rising-got segment_rank t.segments v.order.segments kept.1.0 segment kept.1.1
+    row_got segment_rank t.segments v.order.segments kept.1.0 segment kept.1.1
 
 abbrev On : Tables → RepairPlan → Type 0
 On t plan = IsPlannedOn t plan.segment.0 plan.version

@@ -1,6 +1,7 @@
 -- Which calls open a plan, and that every other call leaves it open or closes it.
 use Rattle.std.proofs.Common.{◌≡◌, ◌⊎◌, inl, inr, ℕ, ◌+◌, ◌-◌, ◌/◌, Bool, true, false, not, List, [], ◌∷◌, ◌++◌, length, Option, Some, None, refl, sym, ap, ◌∙◌, min}
 use Rattle.std.specs.Prelude.{if◌then◌else◌, ◌==◌, map, filter, find, drop, slice_index, option_to_list}
+use Rattle.sat_base.specs.declared.limits.TheConstants as limits
 use Rattle.sat_base.specs.declared.kinds.TheConstants as kinds
 use Rattle.sat_base.specs.declared.records.At.{At}
 use Rattle.sat_base.specs.declared.records.Containment.{Containment}
@@ -112,7 +113,7 @@ module _ (t : Tables) (plan : RecheckPlan) where
   from_recheck_ended : (time : ℕ) (checked : Checked) (c : Containment) → FromRecheck (recheck_ended t time checked c)
   from_recheck_ended time checks.Pass c = λ h. absurd (never plan (all_changed t (recheck_ended t time checks.Pass c).changes).recheck (settled_closed time c Pass) h)
   from_recheck_ended time checks.Fail c = λ h. absurd (never plan (all_changed t (recheck_ended t time checks.Fail c).changes).recheck (settled_closed time c Fail) h)
-  from_recheck_ended time checks.Silent c = go (c.tries + 1 == 3)
+  from_recheck_ended time checks.Silent c = go (c.tries + 1 == limits.TRIES)
     where
       go : (b : Bool) → FromRecheck (recheck_closed t time (if b then settled_as t c Fail else changes.Containment (record c { tries = c.tries + 1 }) ∷ []) checks.Silent (c.tries + 1))
       go true h = absurd (never plan (all_changed (closing t time kinds.RECHECK_PLAN) (settled_as t c Fail)).recheck (settled_closed time c Fail) h)

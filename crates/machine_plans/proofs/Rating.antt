@@ -20,7 +20,7 @@ use Rattle.machine_step.specs.Mending.{failed}
 use Rattle.machine_step.specs.Rules.{are_apart}
 use Rattle.machine_step.specs.Calls.PlanExit.{lies_on}
 use Rattle.machine_step.specs.Bounds.{Each}
-use Rattle.machine_step.proofs.RowLemmas.{row_at-with_row, found_rank}
+use Rattle.machine_step.proofs.RowLemmas.{row_at-with_row, rank-found}
 use Rattle.machine_step.proofs.Batches.{puts_of}
 use Rattle.machine_step.proofs.Rated.{after-parts}
 use Rattle.machine_plans.specs.Outcomes.{fails_on}
@@ -106,7 +106,7 @@ module _ (nodes : List Node) (marks : At → Option Mark) where
       something ih node mark is found serves b here =
           let next = after_of node mark in
           let put : rated_for place ≡ Some next = ap (option_and_then (after_outcome (node_at nodes place.node))) is ∙ ap (λ (o : Option Node). after_outcome o mark) found ∙ ap (λ (b : Bool). if b then Some next else None) serves in
-          let id_is : next.id.0 ≡ place.node.0 = ap (λ (k : NodeId). k.0) (after-parts node mark serves).id ∙ found_rank node_rank nodes place.node.0 node found in
+          let id_is : next.id.0 ≡ place.node.0 = ap (λ (k : NodeId). k.0) (after-parts node mark serves).id ∙ rank-found node_rank nodes place.node.0 node found in
           ap (λ (x : Option Node). node_at (puts_of acc (cons_option x (filter_map rated_for rest))) id) put
           ∙ ih (with_row node_rank acc next) (others-stay acc next place rest id_is other.0 each.1) ∙ at b here id_is
         where

@@ -1,5 +1,6 @@
 -- Which outcomes nodes get where a plan ends, and what becomes of their reputation.
 use Rattle.std.specs.Prelude.{◌≡◌, ◌↔◌, ℕ, ◌==◌, Bool, false, not, if◌then◌else◌, List, [], ◌∷◌, ◌++◌, map, filter, filter_map, Option, Some, None}
+use Rattle.sat_base.specs.declared.limits.TheConstants as limits
 use Rattle.sat_base.specs.declared.ids.NodeId.{NodeId}
 use Rattle.sat_base.specs.declared.records.At.{At}
 use Rattle.node_registry.specs.declared.node.Node.{Node}
@@ -31,7 +32,7 @@ use Rattle.machine_history.specs.History.{Said, taken}
 abbrev pub checked_marks : Checked → ℕ → List Mark
 checked_marks checks.Pass tries = Pass ∷ []
 checked_marks checks.Fail tries = Fail ∷ []
-checked_marks checks.Silent tries = if tries == 3 then Fail ∷ [] else []
+checked_marks checks.Silent tries = if tries == limits.TRIES then Fail ∷ [] else []
 
 -- a fail for each of these places that is on the node
 abbrev pub fails_on : NodeId → (At → Bool) → List At → List Mark

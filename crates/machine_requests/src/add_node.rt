@@ -7,7 +7,7 @@ ghost use Rattle.machine_store.specs.Store.{tables_of};
 use crate::answers::caller_answer;
 use machine_calls::{Asking, RecChange, TableName};
 use machine_store::{Prepared, Store, done_with, table_full};
-use node_registry::{FIRST_ALPHA, Node, Status};
+use node_registry::Node;
 use sat_base::{Asked, Done, NoMemory, NodeId};
 use std::alloc::Global;
 
@@ -30,17 +30,7 @@ pub(crate) fn add_node(
     if count >= store.settings.caps.nodes as usize {
         return Ok(table_full(alloc, TableName::Nodes));
     }
-    let node = Node {
-        id: NodeId(count as u32 + 1),
-        addr,
-        port,
-        free,
-        joined: asking.time,
-        alpha: FIRST_ALPHA,
-        beta: 0,
-        passes: 0,
-        status: Status::Active,
-    };
+    let node = Node::joining(NodeId(count as u32 + 1), addr, port, free, asking.time);
     let done = Done::NodeAdded { node: node.id };
     let put = Some(RecChange::Node(node));
     done_with(alloc, store.marks_at(asking.time), put, asking, asked, done)

@@ -36,7 +36,7 @@ use Rattle.machine_step.specs.PlanRules.{is_owed, is_exited, is_sound_left, is_a
 use Rattle.machine_step.proofs.GrowthLemmas.{AreLater, marks-later, Extends, extends_self, extends_next, extends_set, customer_more, nodes-later, nodes-next, nodes-set, none_next, customers-later, customers-next, IsFine, fine, Grows, segment-later, settled-later, tally-later, kept-later}
 use Rattle.machine_step.proofs.SegmentLemmas.{SegmentsGrow, segments_self, segments_less}
 use Rattle.machine_step.proofs.PlanLemmas.{owed-later, audit-later, recheck-later, repair-later, exit-later}
-use Rattle.machine_step.proofs.RowLemmas.{row_at-with_row, found_rank, rising-with_row, all-with_row, all-without, each-with_row, all-found}
+use Rattle.machine_step.proofs.RowLemmas.{row_at-with_row, rank-found, rising-with_row, all-with_row, all-without, each-with_row, all-found}
 use Rattle.month_pay.proofs.LastMonth.{month_most}
 use Rattle.machine_step.specs.Bounds.{IsSettledWithin}
 use Rattle.machine_step.proofs.TariffLemmas.{tariff_put}
@@ -158,7 +158,7 @@ module _ (from : ℕ) (t : Tables) (s : IsSteady from t) where
   left_set : (node found : Node) → node_at t.nodes node.id ≡ Some found → is_exited node.status ≡ is_exited found.status → LeftHold t.marks (with_row node_rank t.nodes node) t.left
   left_set node found there same =
       let account = all-found node_rank (is_accounted t.left) t.nodes node.id.0 found s.left.accounted there in
-      let own : found.id.0 ≡ node.id.0 = found_rank node_rank t.nodes node.id.0 found there in
+      let own : found.id.0 ≡ node.id.0 = rank-found node_rank t.nodes node.id.0 found there in
       record {
         all = all-weaker (is_sound_left t.marks t.nodes) (is_sound_left t.marks (with_row node_rank t.nodes node)) (λ (row : Left) h. grind (arith, nat_tests, h, there, same, row_at-with_row node_rank t.nodes node row.node.0)) t.left s.left.all;
         accounted = all-with_row node_rank (is_accounted t.left) t.nodes node s.left.accounted (rw (same, ← own) account);

@@ -18,7 +18,7 @@ use Rattle.machine_step.proofs.GrowthLemmas.{segment-most}
 use Rattle.machine_step.proofs.MarkLemmas.{month-open, hour-most}
 use Rattle.machine_step.proofs.Steady.{MarksFit}
 use Rattle.machine_step.proofs.Fits.{After, fitting_apart, fine_found, within_found, timed_fit}
-use Rattle.machine_step.proofs.RowLemmas.{rising-got}
+use Rattle.machine_step.proofs.RowLemmas.{row_got}
 use Rattle.machine_step.specs.Writable.{IsPlanKind}
 use Rattle.sat_base.specs.declared.limits.TheConstants as limits
 use Rattle.month_pay.proofs.Amounts.{length-filter}
@@ -28,7 +28,7 @@ module _ (t : Tables) (v : IsValid t) where
   pub live-found : (word : ℕ) (found : SegmentRecord) → picked (live_segments t) word ≡ Some found → (is_live found ≡ true) × (segment_at t.segments found.id.0 ≡ Some found)
   live-found word found is =
       let kept = got-kept is_live t.segments found (word % length (live_segments t)) is in
-      (kept.0, rising-got segment_rank t.segments v.order.segments kept.1.0 found kept.1.1)
+      (kept.0, row_got segment_rank t.segments v.order.segments kept.1.0 found kept.1.1)
 
   -- some of a segment's pieces, as the places of a plan
   pub some-within : (test : At → Bool) (id : ℕ) (found : SegmentRecord) → segment_at t.segments id ≡ Some found → ArePlacesWithin (filter test found.pieces)

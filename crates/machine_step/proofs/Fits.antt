@@ -20,7 +20,7 @@ use Rattle.machine_step.specs.Rules.{is_known}
 use Rattle.machine_step.specs.Bounds.{Each, IsSegmentWithin, IsValid}
 use Rattle.machine_step.proofs.PickLemmas.{AreFound}
 use Rattle.machine_step.proofs.GrowthLemmas.{plan-most, segment-most, serial-most, found-got, IsFine}
-use Rattle.machine_step.proofs.RowLemmas.{found_rank, each-found}
+use Rattle.machine_step.proofs.RowLemmas.{rank-found, each-found}
 use Rattle.sat_base.specs.declared.records.Key.TheVariants as keys
 use Rattle.machine_calls.specs.declared.change.RecChange.{RecChange}
 use Rattle.machine_calls.specs.declared.change.RecChange.TheVariants as changes
@@ -41,24 +41,15 @@ pub record After (t : Tables) (o : Outcome) : Type 0 where
 -- what fits is what a store can be told
 fits_writable : (from : ℕ) (t : Tables) (change : RecChange) → FitsIn from t change → IsWritable change
 fits_writable from t (changes.Settings settings) fit = fit
-fits_writable from t (changes.Marks marks) fit = tt
-fits_writable from t (changes.Node node) fit = tt
-fits_writable from t (changes.Customer customer) fit = tt
 fits_writable from t (changes.Segment segment) fit = fit.within.few
-fits_writable from t (changes.SettledRow row) fit = tt
-fits_writable from t (changes.Tally tally) fit = tt
-fits_writable from t (changes.Statement statement) fit = tt
 fits_writable from t (changes.AuditPlan plan) fit = fit.within.few
-fits_writable from t (changes.RecheckPlan plan) fit = tt
 fits_writable from t (changes.RepairPlan plan) fit = (fit.within.sources.few, fit.within.targets.few)
-fits_writable from t (changes.Containment containment) fit = tt
 fits_writable from t (changes.Kept kept) fit = fit.within
 fits_writable from t (changes.ExitPlan exit) fit = (fit.within.sources.few, fit.within.targets.few)
-fits_writable from t (changes.Left left) fit = tt
-fits_writable from t (changes.Tariff tariff) fit = tt
 fits_writable from t (changes.Remove (keys.Segment id)) fit = tt
 fits_writable from t (changes.Remove (keys.Plan kind)) fit = fit
 fits_writable from t (changes.Remove (keys.Containment node)) fit = tt
+fits_writable from t _ fit = tt
 
 all_writable : (from : ℕ) (t : Tables) (cs : List RecChange) → AllFit from t cs → Each IsWritable cs
 all_writable from t [] fit = tt
@@ -88,7 +79,7 @@ module _ (t : Tables) (v : IsValid t) where
   -- the number of a segment that is found was drawn
   pub found_below : (id : ℕ) (found : SegmentRecord) → segment_at t.segments id ≡ Some found → nat_lt id t.marks.segment ≡ true
   found_below id found at =
-      let same : found.id.0 ≡ id = found_rank segment_rank t.segments id found at in
+      let same : found.id.0 ≡ id = rank-found segment_rank t.segments id found at in
       ap (λ (k : ℕ). nat_lt k t.marks.segment) (sym same) ∙ (fine_found id found at).below
 
   pub node_known : (id : NodeId) (node : Node) → node_at t.nodes id ≡ Some node → is_known t.nodes id ≡ true

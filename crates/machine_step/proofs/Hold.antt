@@ -29,7 +29,7 @@ use Rattle.machine_step.specs.Tables.{Setup}
 use Rattle.machine_step.specs.Rules.{is_sound_segment, is_sound_settled, is_sound_tally, is_sound_kept}
 use Rattle.machine_step.specs.PlanRules.{is_sound_audit, is_sound_recheck, is_sound_repair, is_sound_exit, is_owed, is_sound_left, is_accounted}
 use Rattle.machine_step.specs.Bounds.{Each, IsSegmentWithin, IsSettledWithin, IsAuditWithin, IsRepairWithin, IsExitWithin}
-use Rattle.machine_step.proofs.RowLemmas.{rising-with_row, length-without, all-with_row, all-without, each-with_row, each-without}
+use Rattle.machine_step.proofs.RowLemmas.{rising-with_row, length-without-le, all-with_row, all-without, each-with_row, each-without}
 
 pub record SegmentsHold (setup : Setup) (marks : Marks) (nodes : List Node) (customers : List Customer) (rows : List SegmentRecord) : Type 0 where
   pub all : list_all (is_sound_segment setup marks nodes customers) rows ≡ true
@@ -71,7 +71,7 @@ pub fewer_segments : (setup : Setup) (marks : Marks) (nodes : List Node) (custom
     → SegmentsHold setup marks nodes customers (without segment_rank rows id)
 fewer_segments setup marks nodes customers rows id hold = record {
   all = all-without segment_rank (is_sound_segment setup marks nodes customers) rows id hold.all;
-  few = omega (arith, length-without segment_rank rows id, hold.few);
+  few = omega (arith, length-without-le segment_rank rows id, hold.few);
   rising = rising-without segment_rank rows id hold.rising;
   within = each-without segment_rank IsSegmentWithin rows id hold.within;
 }

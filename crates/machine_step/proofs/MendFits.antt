@@ -31,7 +31,7 @@ use Rattle.machine_step.specs.Rules.{are_known, are_apart, are_below, is_sound_v
 use Rattle.machine_step.specs.PlanRules.{is_planned_of, is_none_or, is_whole_repair_of, is_sound_repair, is_target_of, is_move_of, is_sound_exit}
 use Rattle.machine_step.specs.Bounds.{Each, IsRepairWithin, IsExitWithin, IsValid}
 use Rattle.machine_step.proofs.Outcomes.{unless-P, if_found-P}
-use Rattle.machine_step.proofs.RowLemmas.{found_rank, length-replaced}
+use Rattle.machine_step.proofs.RowLemmas.{rank-found, length-replaced}
 use Rattle.machine_step.proofs.GrowthLemmas.{sound-fine}
 use Rattle.machine_step.proofs.SegmentLemmas.{IsNext, segments_set}
 use Rattle.machine_step.proofs.PlanLemmas.{known-among}
@@ -178,7 +178,7 @@ module _ (t : Tables) (v : IsValid t) (time : ℕ) (le : t.marks.time ≤ time) 
       let f = fine_found t v plan.segment.0 found can.at in
       let well = well_mended mended found can in
       let enough = enough_mended mended scheme in
-      let same : found.id.0 ≡ plan.segment.0 = found_rank segment_rank t.segments plan.segment.0 found can.at in
+      let same : found.id.0 ≡ plan.segment.0 = rank-found segment_rank t.segments plan.segment.0 found can.at in
       let own : segment_at t.segments next.id.0 ≡ Some found = ap (λ (k : ℕ). segment_at t.segments k) same ∙ can.at in
       let is_next : IsNext found next = record { len = refl; version = omega arith; same = λ e. absurd (omega (arith, e)) } in
       let version : is_sound_version t.setup (timed t.marks time) next ≡ true = let a = can.version in let b = can.later in grind (arith, nat_tests, a, b, enough) in

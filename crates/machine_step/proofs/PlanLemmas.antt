@@ -1,9 +1,10 @@
 -- What keeps the rules of plans and containments as the tables grow.
 use Rattle.std.proofs.Common.{◌≡◌, ℕ, ◌<◌, Bool, true, not, List, [], ◌∷◌, ◌++◌, Option, Some, None, refl, sym, ap, subst, ◌∙◌, arith}
-use Rattle.std.specs.Prelude.{◌==◌, nat_lt, nat_le}
+use Rattle.std.specs.Prelude.{◌==◌, nat_lt}
 use Rattle.std.specs.List.{list_all, list_any}
 use Rattle.std.proofs.lemmas.Bool.Decides.{nat_tests}
 use Rattle.std.proofs.lemmas.Bool.{and_parts, and_from}
+use Rattle.sat_base.specs.declared.limits.TheConstants as limits
 use Rattle.sat_base.specs.declared.ids.Serial.{Serial}
 use Rattle.sat_base.specs.declared.ids.SegId.{SegId}
 use Rattle.sat_base.specs.declared.records.At.{At}
@@ -85,7 +86,7 @@ module _ (from : ℕ) (segments segments' : List SegmentRecord) (grow : Segments
       let lows : list_all (λ containment. nat_lt containment.segment.0 from) rows ≡ true = grind (arith, nat_tests, below) in
       let more : list_all (is_owed setup segments) rows ≡ true = grind (arith, nat_tests, owed) in
       let stripe : has_stripe setup (segment_at segments c.segment.0) c.stripe ≡ true = grind (arith, nat_tests, owed) in
-      let tries : nat_le c.tries 2 ≡ true = grind (arith, nat_tests, owed) in
+      let tries : nat_lt c.tries limits.TRIES ≡ true = grind (arith, nat_tests, owed) in
       and_from _ _ (and_from _ _ tries (stripe-later setup c.segment.0 c.stripe lt stripe)) (owed-later setup rows lows more)
 
   -- ---- plans

@@ -20,7 +20,7 @@ use Rattle.machine_step.specs.Health.{after_outcome}
 use Rattle.machine_step.specs.Rules.{first_bad, is_rated, breaks_node}
 use Rattle.machine_step.specs.PlanRules.{is_exited}
 use Rattle.machine_step.specs.Bounds.{IsValid}
-use Rattle.machine_step.proofs.RowLemmas.{found_rank}
+use Rattle.machine_step.proofs.RowLemmas.{rank-found}
 use Rattle.machine_step.proofs.Batches.{CanUpdate}
 use Rattle.machine_step.proofs.Paid.{IsStill}
 
@@ -75,7 +75,7 @@ behind nodes id mark next is = go (node_at nodes id) refl is
     at : (found : Node) → node_at nodes id ≡ Some found → (b : Bool) → is_serving found.status ≡ b → (if b then Some (after_of found mark) else None) ≡ Some next → IsBehind nodes id mark next
     at found there true serves same =
         let equal : after_of found mark ≡ next = cc in
-        let own : found.id.0 ≡ id.0 = found_rank node_rank nodes id.0 found there in
+        let own : found.id.0 ≡ id.0 = rank-found node_rank nodes id.0 found there in
         record {
           found = found;
           there = there;

@@ -6,7 +6,7 @@ use Rattle.rows.specs.Rows.{without}
 use Rattle.rows.specs.Slots.{with_row}
 use Rattle.segment_core.specs.Record.{SegmentRecord, segment_rank}
 use Rattle.machine_step.specs.Tables.{segment_at}
-use Rattle.machine_step.proofs.RowLemmas.{row_at-with_row, row_at-without}
+use Rattle.machine_step.proofs.RowLemmas.{row_at-with_row, row_left}
 
 -- a segment as it may become
 pub record IsNext (old new : SegmentRecord) : Type 0 where
@@ -64,4 +64,4 @@ segments_set from rows row found there next id s lt at = go (row.id.0 == id) ref
 
 -- a segment less
 pub segments_less : (from : ℕ) (rows : List SegmentRecord) (gone : ℕ) → SegmentsGrow from rows (without segment_rank rows gone)
-segments_less from rows gone id s lt at = record { before = s; at = row_at-without segment_rank rows gone id s at; next = next_self s }
+segments_less from rows gone id s lt at = record { before = s; at = row_left segment_rank rows gone id s at; next = next_self s }

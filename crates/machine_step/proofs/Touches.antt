@@ -10,6 +10,7 @@ use Rattle.machine_calls.specs.declared.call.Call.{Call}
 use Rattle.machine_calls.specs.declared.call.Call.TheVariants as calls
 use Rattle.machine_calls.specs.declared.task.Task.TheVariants as tasks
 use Rattle.machine_calls.specs.declared.wish.Wish.TheVariants as wishes
+use Rattle.machine_calls.specs.Changes.{kind_changed}
 use Rattle.machine_calls.specs.declared.change.RecChange.{RecChange}
 use Rattle.machine_calls.specs.declared.change.RecChange.TheVariants as changes
 use Rattle.tally_payout.specs.declared.amounts.Tally.{Tally}
@@ -22,31 +23,9 @@ use Rattle.sat_base.specs.declared.records.Containment.{Containment}
 use Rattle.node_registry.specs.declared.node.Node.{Node}
 use Rattle.machine_step.specs.Calls.EndAudit.{nodes_after, containments_after}
 
--- the kind of the record that a change puts or removes
-abbrev pub kind_of : RecChange → ℕ
-kind_of (changes.Settings r) = 1
-kind_of (changes.Marks r) = 2
-kind_of (changes.Node r) = 3
-kind_of (changes.Customer r) = 4
-kind_of (changes.Segment r) = 5
-kind_of (changes.SettledRow r) = 6
-kind_of (changes.Tally r) = 7
-kind_of (changes.Statement r) = 8
-kind_of (changes.AuditPlan r) = 9
-kind_of (changes.RecheckPlan r) = 10
-kind_of (changes.RepairPlan r) = 11
-kind_of (changes.Containment r) = 12
-kind_of (changes.Kept r) = 13
-kind_of (changes.ExitPlan r) = 14
-kind_of (changes.Left r) = 15
-kind_of (changes.Tariff r) = 16
-kind_of (changes.Remove (keys.Segment id)) = 5
-kind_of (changes.Remove (keys.Plan kind)) = kind
-kind_of (changes.Remove (keys.Containment node)) = 12
-
 -- each change is of one of these kinds
 abbrev pub are_of : List ℕ → List RecChange → Bool
-are_of kinds cs = list_all (λ c. is_among kinds (kind_of c)) cs
+are_of kinds cs = list_all (λ c. is_among kinds (kind_changed c)) cs
 
 -- the kinds that a call may touch, beside the releases behind it
 abbrev pub kinds_of : Call → List ℕ
@@ -93,7 +72,7 @@ of-statements kinds (row ∷ rows) has = and_from _ _ has (of-statements kinds r
 
 pub of-append : (kinds : List ℕ) (xs ys : List RecChange) → are_of kinds xs ≡ true → are_of kinds ys ≡ true → are_of kinds (xs ++ ys) ≡ true
 of-append kinds [] ys h k = k
-of-append kinds (x ∷ xs) ys h k = let parts = and_parts (is_among kinds (kind_of x)) (are_of kinds xs) h in and_from _ _ parts.0 (of-append kinds xs ys parts.1 k)
+of-append kinds (x ∷ xs) ys h k = let parts = and_parts (is_among kinds (kind_changed x)) (are_of kinds xs) h in and_from _ _ parts.0 (of-append kinds xs ys parts.1 k)
 
 pub touched : (t : Tables) (call : Call) → are_of (kinds_of call) (case_of t call).changes ≡ true
 touched t (calls.Asked now words (wishes.AddNode request addr port free)) = grind (arith, nat_tests)
@@ -132,14 +111,14 @@ other-kind kinds kind own has lacks = go (kind == own) refl
     go false is = refl
 
 -- a part of the tables that only changes of its own kind touch
-module _ {X : Type 0} (part : Tables → X) (own : ℕ) (leaves : (c : RecChange) (t : Tables) → (kind_of c == own) ≡ false → part (changed t c) ≡ part t) where
+module _ {X : Type 0} (part : Tables → X) (own : ℕ) (leaves : (c : RecChange) (t : Tables) → (kind_changed c == own) ≡ false → part (changed t c) ≡ part t) where
   pub frame : (kinds : List ℕ) (cs : List RecChange) (t : Tables) → are_of kinds cs ≡ true → is_among kinds own ≡ false → part (all_changed t cs) ≡ part t
   frame kinds [] t all lacks = refl
   frame kinds (c ∷ cs) t all lacks =
-      let parts = and_parts (is_among kinds (kind_of c)) (are_of kinds cs) all in
-      frame kinds cs (changed t c) parts.1 lacks ∙ leaves c t (other-kind kinds (kind_of c) own parts.0 lacks)
+      let parts = and_parts (is_among kinds (kind_changed c)) (are_of kinds cs) all in
+      frame kinds cs (changed t c) parts.1 lacks ∙ leaves c t (other-kind kinds (kind_changed c) own parts.0 lacks)
 
-leaves-nodes : (c : RecChange) (t : Tables) → (kind_of c == 3) ≡ false → (changed t c).nodes ≡ t.nodes
+leaves-nodes : (c : RecChange) (t : Tables) → (kind_changed c == 3) ≡ false → (changed t c).nodes ≡ t.nodes
 leaves-nodes (changes.Node r) t other = cc
 leaves-nodes (changes.Remove (keys.Segment id)) t other = refl
 leaves-nodes (changes.Remove (keys.Plan kind)) t other = refl
@@ -150,7 +129,7 @@ leaves-nodes _ t other = refl
 pub nodes-frame : (kinds : List ℕ) (cs : List RecChange) (t : Tables) → are_of kinds cs ≡ true → is_among kinds 3 ≡ false → (all_changed t cs).nodes ≡ t.nodes
 nodes-frame = frame (λ t. t.nodes) 3 leaves-nodes
 
-leaves-customers : (c : RecChange) (t : Tables) → (kind_of c == 4) ≡ false → (changed t c).customers ≡ t.customers
+leaves-customers : (c : RecChange) (t : Tables) → (kind_changed c == 4) ≡ false → (changed t c).customers ≡ t.customers
 leaves-customers (changes.Customer r) t other = cc
 leaves-customers (changes.Remove (keys.Segment id)) t other = refl
 leaves-customers (changes.Remove (keys.Plan kind)) t other = refl
@@ -161,7 +140,7 @@ leaves-customers _ t other = refl
 pub customers-frame : (kinds : List ℕ) (cs : List RecChange) (t : Tables) → are_of kinds cs ≡ true → is_among kinds 4 ≡ false → (all_changed t cs).customers ≡ t.customers
 customers-frame = frame (λ t. t.customers) 4 leaves-customers
 
-leaves-segments : (c : RecChange) (t : Tables) → (kind_of c == 5) ≡ false → (changed t c).segments ≡ t.segments
+leaves-segments : (c : RecChange) (t : Tables) → (kind_changed c == 5) ≡ false → (changed t c).segments ≡ t.segments
 leaves-segments (changes.Segment r) t other = cc
 leaves-segments (changes.Remove (keys.Segment id)) t other = cc
 leaves-segments (changes.Remove (keys.Plan kind)) t other = refl
@@ -172,7 +151,7 @@ leaves-segments _ t other = refl
 pub segments-frame : (kinds : List ℕ) (cs : List RecChange) (t : Tables) → are_of kinds cs ≡ true → is_among kinds 5 ≡ false → (all_changed t cs).segments ≡ t.segments
 segments-frame = frame (λ t. t.segments) 5 leaves-segments
 
-leaves-audit : (c : RecChange) (t : Tables) → (kind_of c == 9) ≡ false → (changed t c).audit ≡ t.audit
+leaves-audit : (c : RecChange) (t : Tables) → (kind_changed c == 9) ≡ false → (changed t c).audit ≡ t.audit
 leaves-audit (changes.AuditPlan r) t other = cc
 leaves-audit (changes.Remove (keys.Segment id)) t other = refl
 leaves-audit (changes.Remove (keys.Plan kind)) t other = ap (λ (b : Bool). if b then None else t.audit) other
@@ -183,7 +162,7 @@ leaves-audit _ t other = refl
 pub audit-frame : (kinds : List ℕ) (cs : List RecChange) (t : Tables) → are_of kinds cs ≡ true → is_among kinds 9 ≡ false → (all_changed t cs).audit ≡ t.audit
 audit-frame = frame (λ t. t.audit) 9 leaves-audit
 
-leaves-recheck : (c : RecChange) (t : Tables) → (kind_of c == 10) ≡ false → (changed t c).recheck ≡ t.recheck
+leaves-recheck : (c : RecChange) (t : Tables) → (kind_changed c == 10) ≡ false → (changed t c).recheck ≡ t.recheck
 leaves-recheck (changes.RecheckPlan r) t other = cc
 leaves-recheck (changes.Remove (keys.Segment id)) t other = refl
 leaves-recheck (changes.Remove (keys.Plan kind)) t other = ap (λ (b : Bool). if b then None else t.recheck) other
@@ -193,7 +172,7 @@ leaves-recheck _ t other = refl
 pub recheck-frame : (kinds : List ℕ) (cs : List RecChange) (t : Tables) → are_of kinds cs ≡ true → is_among kinds 10 ≡ false → (all_changed t cs).recheck ≡ t.recheck
 recheck-frame = frame (λ t. t.recheck) 10 leaves-recheck
 
-leaves-repair : (c : RecChange) (t : Tables) → (kind_of c == 11) ≡ false → (changed t c).repair ≡ t.repair
+leaves-repair : (c : RecChange) (t : Tables) → (kind_changed c == 11) ≡ false → (changed t c).repair ≡ t.repair
 leaves-repair (changes.RepairPlan r) t other = cc
 leaves-repair (changes.Remove (keys.Segment id)) t other = refl
 leaves-repair (changes.Remove (keys.Plan kind)) t other = ap (λ (b : Bool). if b then None else t.repair) other
@@ -203,7 +182,7 @@ leaves-repair _ t other = refl
 pub repair-frame : (kinds : List ℕ) (cs : List RecChange) (t : Tables) → are_of kinds cs ≡ true → is_among kinds 11 ≡ false → (all_changed t cs).repair ≡ t.repair
 repair-frame = frame (λ t. t.repair) 11 leaves-repair
 
-leaves-exit : (c : RecChange) (t : Tables) → (kind_of c == 14) ≡ false → (changed t c).exit ≡ t.exit
+leaves-exit : (c : RecChange) (t : Tables) → (kind_changed c == 14) ≡ false → (changed t c).exit ≡ t.exit
 leaves-exit (changes.ExitPlan r) t other = cc
 leaves-exit (changes.Remove (keys.Segment id)) t other = refl
 leaves-exit (changes.Remove (keys.Plan kind)) t other = ap (λ (b : Bool). if b then None else t.exit) other
@@ -213,7 +192,7 @@ leaves-exit _ t other = refl
 pub exit-frame : (kinds : List ℕ) (cs : List RecChange) (t : Tables) → are_of kinds cs ≡ true → is_among kinds 14 ≡ false → (all_changed t cs).exit ≡ t.exit
 exit-frame = frame (λ t. t.exit) 14 leaves-exit
 
-leaves-containments : (c : RecChange) (t : Tables) → (kind_of c == 12) ≡ false → (changed t c).containments ≡ t.containments
+leaves-containments : (c : RecChange) (t : Tables) → (kind_changed c == 12) ≡ false → (changed t c).containments ≡ t.containments
 leaves-containments (changes.Containment r) t other = cc
 leaves-containments (changes.Remove (keys.Containment node)) t other = cc
 leaves-containments (changes.Remove (keys.Segment id)) t other = refl
@@ -224,7 +203,7 @@ leaves-containments _ t other = refl
 pub containments-frame : (kinds : List ℕ) (cs : List RecChange) (t : Tables) → are_of kinds cs ≡ true → is_among kinds 12 ≡ false → (all_changed t cs).containments ≡ t.containments
 containments-frame = frame (λ t. t.containments) 12 leaves-containments
 
-leaves-kept : (c : RecChange) (t : Tables) → (kind_of c == 13) ≡ false → (changed t c).kept ≡ t.kept
+leaves-kept : (c : RecChange) (t : Tables) → (kind_changed c == 13) ≡ false → (changed t c).kept ≡ t.kept
 leaves-kept (changes.Kept r) t other = cc
 leaves-kept (changes.Remove (keys.Segment id)) t other = refl
 leaves-kept (changes.Remove (keys.Plan kind)) t other = refl

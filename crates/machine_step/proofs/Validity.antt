@@ -15,7 +15,7 @@ use Rattle.machine_step.specs.Containment.{stands, place_of, has_live_piece, ser
 use Rattle.machine_step.specs.Rules.{least, is_sound_segment, is_sound_settled, is_sound_tally, is_sound_kept}
 use Rattle.machine_step.specs.PlanRules.{is_none_or, is_sound_audit, is_sound_recheck, is_sound_repair, is_sound_exit, is_owed}
 use Rattle.machine_step.specs.Bounds.{IsAuditWithin, IsRepairWithin, IsExitWithin, IsValid}
-use Rattle.machine_step.proofs.RowLemmas.{all-found, found_rank, capped-all, capped-length, capped-back, plain-all, plain-back}
+use Rattle.machine_step.proofs.RowLemmas.{all-found, rank-found, capped-all, capped-length, capped-back, plain-all, plain-back}
 use Rattle.machine_step.proofs.GrowthLemmas.{fine}
 use Rattle.machine_step.proofs.ReleaseLemmas.{left_of, releases_are, left_standing, rising-filtered, all-kept}
 use Rattle.machine_step.proofs.PieceLemmas.{all-filtered}
@@ -54,7 +54,7 @@ module _ (t : Tables) (v : IsValid t) where
   below-found : (id : ℕ) (found : Option SegmentRecord) → segment_at t.segments id ≡ found → is_some found ≡ true → nat_lt id t.marks.segment ≡ true
   below-found id None at some = cc
   below-found id (Some found) at some =
-      let same : found.id.0 ≡ id = found_rank segment_rank t.segments id found at in
+      let same : found.id.0 ≡ id = rank-found segment_rank t.segments id found at in
       let f = fine t.setup t.marks t.nodes t.customers found (all-found segment_rank (is_sound_segment t.setup t.marks t.nodes t.customers) t.segments id found segments_hold.all at) in
       ap (λ (k : ℕ). nat_lt k t.marks.segment) (sym same) ∙ f.below
 

@@ -1,6 +1,7 @@
 -- The rules of open plans, containments, and nodes that left.
 use Rattle.std.specs.Prelude.{ℕ, Bool, true, false, ◌==◌, ◌&&◌, ◌||◌, not, nat_lt, nat_le, if◌then◌else◌, List, [], ◌∷◌, ◌++◌, length, map, filter, Option, Some, None, is_some}
 use Rattle.std.specs.List.{list_any, list_all}
+use Rattle.sat_base.specs.declared.limits.TheConstants as limits
 use Rattle.sat_base.specs.declared.ids.Serial.{Serial}
 use Rattle.sat_base.specs.declared.ids.SegId.{SegId}
 use Rattle.sat_base.specs.declared.records.At.{At}
@@ -94,7 +95,7 @@ has_stripe setup None stripe = true
 has_stripe setup (Some segment) stripe = nat_lt stripe (stripes_of setup segment)
 
 abbrev pub is_owed : Setup → List SegmentRecord → Containment → Bool
-is_owed setup segments containment = nat_le containment.tries 2 && has_stripe setup (segment_at segments containment.segment.0) containment.stripe
+is_owed setup segments containment = nat_lt containment.tries limits.TRIES && has_stripe setup (segment_at segments containment.segment.0) containment.stripe
 
 -- a containment stands, its node was silent again at most twice, and its stripe is one of the segment's
 abbrev pub breaks_containment : Setup → List Node → List SegmentRecord → ℕ → Containment → Bool

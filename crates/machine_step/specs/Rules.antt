@@ -1,6 +1,8 @@
 -- The rules of marks, nodes, customers, segments, settled rows, tallies, statements, kept requests and tariffs.
 use Rattle.std.specs.Prelude.{ℕ, suc, ◌+◌, ◌/◌, ◌^◌, Bool, true, false, ◌==◌, ◌&&◌, ◌||◌, not, nat_lt, nat_le, if◌then◌else◌, List, [], ◌∷◌, ◌++◌, length, Option, Some, None, is_some}
 use Rattle.std.specs.List.{list_any, list_all}
+use Rattle.order_limits.specs.declared.limit.Action.TheVariants as actions
+use Rattle.order_limits.specs.Order.{action_byte}
 use Rattle.sat_base.specs.declared.limits.TheConstants as limits
 use Rattle.sat_base.specs.declared.ids.NodeId.{NodeId}
 use Rattle.sat_base.specs.declared.ids.CustomerId.{CustomerId}
@@ -153,13 +155,13 @@ is_sound_offer marks nodes caller offer =
     list_all (λ place. is_known nodes place.node) offer.places && (nat_lt offer.serial.0 marks.serial
     && (nat_lt offer.segment.0 marks.segment && ((offer.customer.0 == caller.0) && nat_le offer.issued marks.time)))
 
--- the reply fits the request: actions are those of a put, 1, and of a get, 2
+-- the reply fits the request
 abbrev pub is_sound_done : Marks → List Node → CustomerId → Asked → Done → Bool
 is_sound_done marks nodes caller (asks.Node addr port free) (dones.NodeAdded node) = is_known nodes node
 is_sound_done marks nodes caller asks.Customer (dones.CustomerAdded customer) = true
-is_sound_done marks nodes caller (asks.Begin len) (dones.Offer offer) = (offer.action == 1) && is_sound_offer marks nodes caller offer
+is_sound_done marks nodes caller (asks.Begin len) (dones.Offer offer) = (offer.action == action_byte actions.Put) && is_sound_offer marks nodes caller offer
 is_sound_done marks nodes caller (asks.Commit segment indexes) (dones.Committed live) = nat_lt live.0 marks.segment
-is_sound_done marks nodes caller (asks.Get segment) (dones.Offer offer) = (offer.action == 2) && is_sound_offer marks nodes caller offer
+is_sound_done marks nodes caller (asks.Get segment) (dones.Offer offer) = (offer.action == action_byte actions.Get) && is_sound_offer marks nodes caller offer
 is_sound_done marks nodes caller (asks.Delete segment) (dones.Deleted gone) = nat_lt gone.0 marks.segment
 is_sound_done marks nodes caller _ _ = false
 

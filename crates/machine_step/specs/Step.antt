@@ -1,5 +1,6 @@
 -- The step of the machine: what comes of each call, and the tables after it.
-use Rattle.std.specs.Prelude.{◌≡◌, ℕ, ◌^◌, ◌<◌, Bool, true, false, ◌||◌, length, max, slice_index_or, if◌then◌else◌}
+use Rattle.std.specs.Prelude.{◌≡◌, ℕ, ◌<◌, Bool, true, false, ◌||◌, length, max, slice_index_or, if◌then◌else◌}
+use Rattle.sat_base.specs.Moments.{IsMoment}
 use Rattle.sat_base.specs.declared.limits.TheConstants as limits
 use Rattle.sat_base.specs.declared.ids.CustomerId.{CustomerId}
 use Rattle.sat_base.specs.declared.scheme.Scheme.{Scheme}
@@ -125,7 +126,7 @@ HasTariff _ = Unit {0}
 
 -- what a call is to be by itself
 pub record IsFormed (call : Call) : Type 0 where
-  pub timely : moment_of call < 2 ^ 36
+  pub timely : IsMoment (moment_of call)
   pub words : HasItsWords call
   pub bytes : HasBytes call
   pub tariff : HasTariff call

@@ -32,7 +32,10 @@ use Rattle.audit_core.specs.declared.rechecking.RecheckPlan.{RecheckPlan}
 use Rattle.repair_core.specs.declared.plan.RepairPlan.{RepairPlan}
 use Rattle.repair_core.specs.declared.plan.ExitPlan.{ExitPlan}
 use Rattle.machine_calls.specs.declared.change.RecChange.{RecChange}
-use Rattle.machine_calls.specs.declared.change.RecChange.TheVariants as changes
+use Rattle.machine_calls.specs.Changes.{Doing, doing}
+use Rattle.machine_calls.specs.Changes.Doing.{puts, removes}
+use Rattle.record_kinds.specs.declared.rec.Rec.{Rec}
+use Rattle.record_kinds.specs.declared.rec.Rec.TheVariants as records
 
 -- what a store is set up with
 pub record Setup : Type 0 where
@@ -140,25 +143,32 @@ removed t (keys.Plan kind) = record t {
 }
 removed t (keys.Containment node) = record t { containments = without containment_rank t.containments node.0 }
 
+-- the tables with a record
+abbrev pub put : Tables → Rec → Tables
+put t (records.Settings settings) = record t { setup = setup_of settings }
+put t (records.Marks marks) = record t { marks = marks }
+put t (records.Node node) = record t { nodes = with_row node_rank t.nodes node }
+put t (records.Customer customer) = record t { customers = with_row customer_rank t.customers customer }
+put t (records.Segment segment) = record t { segments = with_row segment_rank t.segments segment }
+put t (records.SettledRow row) = record t { settled = with_row key t.settled row }
+put t (records.Tally tally) = record t { tallies = with_row tally_rank t.tallies tally }
+put t (records.Statement statement) = record t { statements = with_row statement_rank t.statements statement }
+put t (records.AuditPlan plan) = record t { audit = Some plan }
+put t (records.RecheckPlan plan) = record t { recheck = Some plan }
+put t (records.RepairPlan plan) = record t { repair = Some plan }
+put t (records.Containment containment) = record t { containments = with_row containment_rank t.containments containment }
+put t (records.Kept kept) = record t { kept = with_row kept_rank t.kept kept }
+put t (records.ExitPlan plan) = record t { exit = Some plan }
+put t (records.Left left) = record t { left = with_row left_rank t.left left }
+put t (records.Tariff tariff) = record t { tariffs = with_row tariff_rank t.tariffs tariff }
+
 -- the tables after one change
+abbrev pub changed_by : Tables → Doing → Tables
+changed_by t (puts rec) = put t rec
+changed_by t (removes key) = removed t key
+
 abbrev pub changed : Tables → RecChange → Tables
-changed t (changes.Settings settings) = record t { setup = setup_of settings }
-changed t (changes.Marks marks) = record t { marks = marks }
-changed t (changes.Node node) = record t { nodes = with_row node_rank t.nodes node }
-changed t (changes.Customer customer) = record t { customers = with_row customer_rank t.customers customer }
-changed t (changes.Segment segment) = record t { segments = with_row segment_rank t.segments segment }
-changed t (changes.SettledRow row) = record t { settled = with_row key t.settled row }
-changed t (changes.Tally tally) = record t { tallies = with_row tally_rank t.tallies tally }
-changed t (changes.Statement statement) = record t { statements = with_row statement_rank t.statements statement }
-changed t (changes.AuditPlan plan) = record t { audit = Some plan }
-changed t (changes.RecheckPlan plan) = record t { recheck = Some plan }
-changed t (changes.RepairPlan plan) = record t { repair = Some plan }
-changed t (changes.Containment containment) = record t { containments = with_row containment_rank t.containments containment }
-changed t (changes.Kept kept) = record t { kept = with_row kept_rank t.kept kept }
-changed t (changes.ExitPlan plan) = record t { exit = Some plan }
-changed t (changes.Left left) = record t { left = with_row left_rank t.left left }
-changed t (changes.Tariff tariff) = record t { tariffs = with_row tariff_rank t.tariffs tariff }
-changed t (changes.Remove one) = removed t one
+changed t change = changed_by t (doing change)
 
 -- the tables after changes, in order
 abbrev pub all_changed : Tables → List RecChange → Tables

@@ -1,5 +1,4 @@
 pub mod OpeningLemmas
-pub mod MadeLemmas
 pub mod BrokenLemmas
 pub mod NodeLemmas
 pub mod StoreLemmas

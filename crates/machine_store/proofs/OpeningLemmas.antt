@@ -1,4 +1,4 @@
--- The first broken rule, where the rules before it are kept, and the rules where none is broken.
+-- The rules where none is broken, and rows that are taken one after another.
 use Rattle.std.proofs.Common.{◌≡◌, ℕ, suc, ◌+◌, ◌<◌, ◌≤◌, Bool, true, false, List, [], ◌∷◌, ◌++◌, length, Option, Some, None, IfSome, if◌then◌else◌, length-append, refl, sym, ap, subst, ◌∙◌, arith}
 use Rattle.std.specs.Prelude.{min}
 use Rattle.std.specs.Option.{option_map}
@@ -14,48 +14,12 @@ use Rattle.sat_base.specs.declared.settings.Marks.{Marks}
 use Rattle.rows.specs.Rows.{row_at, added, AllAbove, IsRising}
 use Rattle.machine_step.specs.Rules.{are_sound_marks, first_bad, breaks_node, least, least_with}
 use Rattle.machine_step.specs.Health.{first_of}
-use Rattle.machine_step.specs.Broken.{first_some, Broken, or_else, broken, broken_marks, broken_plan, first_broken}
+use Rattle.machine_step.specs.Broken.{Broken, or_else, broken, broken_marks, broken_plan, first_broken}
 use Rattle.machine_step.specs.PlanRules.{is_none_or, is_sound_audit, is_sound_recheck, is_sound_repair, is_sound_exit}
 use Rattle.machine_step.specs.Sound.{IsSound}
-use Rattle.machine_store.specs.declared.opening.CoreErr.{CoreErr}
-use Rattle.machine_store.specs.declared.opening.CoreErr.TheVariants as errs
 use Rattle.machine_store.specs.declared.store.Store.{Store}
 use Rattle.machine_store.specs.Store.{tables_of, GoesByTables, KeepsRules}
-use Rattle.machine_store.specs.Opening.{AreParts, NamesSome, least_of, tables_made}
-
--- the first of the broken rules is the least
-pub named_first : (err : CoreErr) (first rest : Option Broken) → NamesSome err first → NamesSome err (or_else first rest)
-named_first (errs.Rule rule kind id) None rest is = cc
-named_first (errs.Rule rule kind id) (Some b) rest is = is
-named_first errs.NoMemory first rest is = tt
-
--- where the first is kept, the least is one behind
-pub named_later : (err : CoreErr) (first rest : Option Broken) → first ≡ None → NamesSome err rest → NamesSome err (or_else first rest)
-named_later err None rest none is = is
-named_later err (Some b) rest none is = cc
-
--- an error of the front of a list of rules is the list's
-pub named_front : (err : CoreErr) (xs ys : List (Option Broken)) → NamesSome err (first_some xs) → NamesSome err (first_some (xs ++ ys))
-named_front (errs.Rule rule kind id) [] ys is = cc
-named_front errs.NoMemory [] ys is = tt
-named_front err (None ∷ xs) ys is = named_front err xs ys is
-named_front err (Some b ∷ xs) ys is = is
-
--- behind a front that is kept, an error is that of the rest
-pub named_behind : (err : CoreErr) (xs ys : List (Option Broken)) → first_some xs ≡ None → NamesSome err (first_some ys) → NamesSome err (first_some (xs ++ ys))
-named_behind err [] ys none is = is
-named_behind err (None ∷ xs) ys none is = named_behind err xs ys none is
-named_behind err (Some b ∷ xs) ys none is = cc
-
--- two parts of a list of rules that are kept
-pub none_both : (xs ys : List (Option Broken)) → first_some xs ≡ None → first_some ys ≡ None → first_some (xs ++ ys) ≡ None
-none_both [] ys none rest = rest
-none_both (None ∷ xs) ys none rest = none_both xs ys none rest
-none_both (Some b ∷ xs) ys none rest = cc
-
-pub none_cons : (first rest : Option Broken) → first ≡ None → rest ≡ None → or_else first rest ≡ None
-none_cons None rest is none = none
-none_cons (Some b) rest is none = cc
+use Rattle.machine_store.specs.Opening.{AreParts, least_of, tables_made}
 
 pub none_first : (first rest : Option Broken) → or_else first rest ≡ None → first ≡ None
 none_first None rest is = refl

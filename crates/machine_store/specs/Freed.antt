@@ -1,5 +1,6 @@
 -- The room that a step leaves which is given up: none for a record that isn't there.
-use Rattle.std.specs.Prelude.{ℕ, ◌*◌, ◌^◌, ◌<◌}
+use Rattle.std.specs.Prelude.{ℕ, ◌*◌}
+use Rattle.sat_base.specs.Moments.{IsMoment}
 use Rattle.sat_base.specs.Ranks.{containment_rank, customer_rank, kept_rank, tariff_rank}
 use Rattle.rows.specs.Rows.{Each}
 use Rattle.rows.specs.Slots.{Slots}
@@ -35,43 +36,20 @@ pub record IsStatementFreed (s : Store) (statement : Statement) : Type 0 where
 
 -- the room of what pay goes by; no tally is placed behind the last hour
 abbrev pub IsPaidFreed : Store → RecChange → Type 0
-IsPaidFreed s (changes.Settings r) = Unit {0}
-IsPaidFreed s (changes.Marks r) = Unit {0}
-IsPaidFreed s (changes.Node r) = Unit {0}
-IsPaidFreed s (changes.Customer r) = Unit {0}
 IsPaidFreed s (changes.Segment r) = IsSegmentFreed s r
 IsPaidFreed s (changes.SettledRow r) = IsTight open_rank s.pay.sums (month_place (month_at r.at) r.node.0)
-IsPaidFreed s (changes.Tally r) = r.hour.0 * 3600 < 2 ^ 36 → IsTallyFreed s r
+IsPaidFreed s (changes.Tally r) = IsMoment (r.hour.0 * 3600) → IsTallyFreed s r
 IsPaidFreed s (changes.Statement r) = IsStatementFreed s r
-IsPaidFreed s (changes.AuditPlan r) = Unit {0}
-IsPaidFreed s (changes.RecheckPlan r) = Unit {0}
-IsPaidFreed s (changes.RepairPlan r) = Unit {0}
-IsPaidFreed s (changes.Containment r) = Unit {0}
-IsPaidFreed s (changes.Kept r) = Unit {0}
-IsPaidFreed s (changes.ExitPlan r) = Unit {0}
-IsPaidFreed s (changes.Left r) = Unit {0}
-IsPaidFreed s (changes.Tariff r) = Unit {0}
-IsPaidFreed s (changes.Remove one) = Unit {0}
+IsPaidFreed s _ = Unit {0}
 
 -- the room of the other records that have a rank
 abbrev pub IsPlainFreed : Store → RecChange → Type 0
-IsPlainFreed s (changes.Settings r) = Unit {0}
-IsPlainFreed s (changes.Marks r) = Unit {0}
-IsPlainFreed s (changes.Node r) = Unit {0}
 IsPlainFreed s (changes.Customer r) = IsTight customer_rank s.customers (customer_rank r)
-IsPlainFreed s (changes.Segment r) = Unit {0}
-IsPlainFreed s (changes.SettledRow r) = Unit {0}
-IsPlainFreed s (changes.Tally r) = Unit {0}
-IsPlainFreed s (changes.Statement r) = Unit {0}
-IsPlainFreed s (changes.AuditPlan r) = Unit {0}
-IsPlainFreed s (changes.RecheckPlan r) = Unit {0}
-IsPlainFreed s (changes.RepairPlan r) = Unit {0}
 IsPlainFreed s (changes.Containment r) = IsTight containment_rank s.containments (containment_rank r)
 IsPlainFreed s (changes.Kept r) = IsTight kept_rank s.kept (kept_rank r)
-IsPlainFreed s (changes.ExitPlan r) = Unit {0}
 IsPlainFreed s (changes.Left r) = IsTight left_rank s.left (left_rank r)
 IsPlainFreed s (changes.Tariff r) = IsTight tariff_rank s.tariffs (tariff_rank r)
-IsPlainFreed s (changes.Remove one) = Unit {0}
+IsPlainFreed s _ = Unit {0}
 
 -- No room stands for the record that a change puts, if there is none. Room for nodes and for rows of settled orders
 -- has no rank and serves the next one; the other records take no room.

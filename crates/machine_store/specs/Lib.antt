@@ -3,4 +3,4 @@ pub mod Freed
 pub mod Prepared
 pub mod Plans
 pub mod Opening
-pub mod Groups
+pub mod Testing

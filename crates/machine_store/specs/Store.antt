@@ -1,6 +1,8 @@
 -- The tables as they are kept, and the room that is made in them.
 use Rattle.std.specs.Prelude.{◌≡◌, ℕ, ◌+◌, ◌*◌, ◌^◌, ◌<◌, ◌≤◌, Bool, true, false, not, ◌&&◌, ◌||◌, ◌==◌, nat_lt, List, [], ◌∷◌, length, map, filter, Option, Some, None}
 use Rattle.std.specs.List.{list_all}
+use Rattle.sat_base.specs.declared.limits.TheConstants as limits
+use Rattle.sat_base.specs.Moments.{IsMoment}
 use Rattle.sat_base.specs.declared.ids.NodeId.{NodeId}
 use Rattle.sat_base.specs.declared.records.Key.TheVariants as keys
 use Rattle.sat_base.specs.declared.settings.Settings.{Settings}
@@ -93,7 +95,7 @@ pub record KeepsRules (s : Store) : Type 0 where
 pub record IsNodePlaceable (nodes : List Node) (node : Node) : Type 0 where
   pub low : 1 ≤ node.id.0
   pub high : node.id.0 ≤ length nodes + 1
-  pub next : node.id.0 ≡ length nodes + 1 → length nodes < 65536
+  pub next : node.id.0 ≡ length nodes + 1 → length nodes < limits.NODES
   pub stays : is_lost (node_at nodes node.id) ≡ true → is_counted node.status ≡ false
 
 -- a row is a new one, below the cap
@@ -115,7 +117,7 @@ pub record IsTallyPlaceable (t : Tables) (tally : Tally) : Type 0 where
   pub absent : row_at tally_rank t.tallies (tally_rank tally) ≡ None
   pub unstated : IsOpenIn t (month_of_hour tally.hour.0) tally.node
   pub small : tally.bytes ≤ 2 ^ 44
-  pub early : tally.hour.0 * 3600 < 2 ^ 36
+  pub early : IsMoment (tally.hour.0 * 3600)
 
 -- a statement comes behind all others
 abbrev pub IsStatementPlaceable : Tables → Statement → Type 0
@@ -124,22 +126,12 @@ IsStatementPlaceable t s = Each (λ row. statement_rank row < statement_rank s) 
 -- settings can't be placed
 abbrev pub IsPlaceable : Tables → RecChange → Type 0
 IsPlaceable t (changes.Settings r) = ⊥
-IsPlaceable t (changes.Marks r) = Unit {0}
 IsPlaceable t (changes.Node r) = IsNodePlaceable t.nodes r
-IsPlaceable t (changes.Customer r) = Unit {0}
 IsPlaceable t (changes.Segment r) = IsShort r
 IsPlaceable t (changes.SettledRow r) = IsSettledPlaceable t r
 IsPlaceable t (changes.Tally r) = IsTallyPlaceable t r
 IsPlaceable t (changes.Statement r) = IsStatementPlaceable t r
-IsPlaceable t (changes.AuditPlan r) = Unit {0}
-IsPlaceable t (changes.RecheckPlan r) = Unit {0}
-IsPlaceable t (changes.RepairPlan r) = Unit {0}
-IsPlaceable t (changes.Containment r) = Unit {0}
-IsPlaceable t (changes.Kept r) = Unit {0}
-IsPlaceable t (changes.ExitPlan r) = Unit {0}
-IsPlaceable t (changes.Left r) = Unit {0}
-IsPlaceable t (changes.Tariff r) = Unit {0}
-IsPlaceable t (changes.Remove one) = Unit {0}
+IsPlaceable t _ = Unit {0}
 
 abbrev pub ArePlaceable : Tables → List RecChange → Type 0
 ArePlaceable t [] = Unit {0}
@@ -151,7 +143,7 @@ ArePlaceable t (first ∷ rest) = IsPlaceable t first × ArePlaceable t rest
 pub record IsNodePlaced (nodes : Nodes) (node : Node) : Type 0 where
   pub low : 1 ≤ node.id.0
   pub high : node.id.0 ≤ length nodes.nodes + 1
-  pub next : node.id.0 ≡ length nodes.nodes + 1 → (0 < nodes.spare_nodes) × (length nodes.nodes < 65536)
+  pub next : node.id.0 ≡ length nodes.nodes + 1 → (0 < nodes.spare_nodes) × (length nodes.nodes < limits.NODES)
 
 -- the pieces on a node that are counted as lost don't count again
 abbrev pub StaysLost : List NodeId → Node → Type 0
@@ -176,22 +168,17 @@ pub record IsSettledPlaced (s : Store) (one : SettledRow) : Type 0 where
 -- there is room for the record that the change puts
 abbrev pub IsPlaced : Store → RecChange → Type 0
 IsPlaced s (changes.Settings r) = ⊥
-IsPlaced s (changes.Marks r) = Unit {0}
 IsPlaced s (changes.Node r) = IsNodePlaced s.nodes r × StaysLost s.segments.gone r
 IsPlaced s (changes.Customer r) = has_slot s.customers (customer_rank r) ≡ true
 IsPlaced s (changes.Segment r) = IsSegmentPlacedIn s r
 IsPlaced s (changes.SettledRow r) = IsSettledPlaced s r
 IsPlaced s (changes.Tally r) = IsTallyPlaced s.pay r
 IsPlaced s (changes.Statement r) = IsStatementPlaced s.pay r
-IsPlaced s (changes.AuditPlan r) = Unit {0}
-IsPlaced s (changes.RecheckPlan r) = Unit {0}
-IsPlaced s (changes.RepairPlan r) = Unit {0}
 IsPlaced s (changes.Containment r) = has_slot s.containments (containment_rank r) ≡ true
 IsPlaced s (changes.Kept r) = has_slot s.kept (kept_rank r) ≡ true
-IsPlaced s (changes.ExitPlan r) = Unit {0}
 IsPlaced s (changes.Left r) = has_slot s.left (left_rank r) ≡ true
 IsPlaced s (changes.Tariff r) = has_slot s.tariffs (tariff_rank r) ≡ true
-IsPlaced s (changes.Remove one) = Unit {0}
+IsPlaced s _ = Unit {0}
 
 -- for each record that the changes put
 abbrev pub ArePlaced : Store → List RecChange → Type 0

@@ -13,19 +13,20 @@
 #![tactic(auto)]
 
 mod callers;
-mod groups;
+mod list_tests;
 mod making;
 mod opening;
-mod paid;
 mod paying;
 mod placing;
 mod plans;
 mod prepared;
 mod queries;
-mod standing;
 mod steps;
 mod store;
+mod table_tests;
 mod tables;
+mod testing;
+mod untested;
 
 pub use callers::{asking, risen};
 pub use making::store_of;

@@ -10,51 +10,20 @@ ghost use Rattle.tally_payout.specs.Ranks.{tally_rank, statement_rank};
 ghost use Rattle.machine_step.specs.Bounds.{IsSetupWithin};
 ghost use Rattle.machine_step.specs.Broken.{first_broken};
 ghost use Rattle.machine_step.specs.Tables.{setup_of};
-ghost use Rattle.machine_store.specs.Groups.{tables_joined, IsIndexed, IsPaid};
 ghost use Rattle.machine_store.specs.Opening.{tables_made, Tests};
 ghost use Rattle.machine_store.specs.Store.{tables_of, GoesByTables};
 
-use crate::groups::{Base, BaseRows, Rest, RestRows, Work, WorkRows, base_of, rest_of, work_of};
-use crate::opening::{CoreErr, test_marks};
-use crate::paid::PaidRows;
-use crate::plans::Plans;
+use crate::opening::CoreErr;
 use crate::store::Store;
+use crate::tables::{index_of, settled_table};
+use crate::testing::{test_front, test_paid, test_rest};
+use crate::untested::{PaidRows, untested_of};
 use machine_calls::Parts0;
 use order_limits::Keys;
+use pay_tables::PayTables;
+use rows::SlottedRows;
 use sat_base::{Marks, Settings};
 use std::alloc::Global;
-
-// The parts of a store.
-fn joined(settings: Settings, marks: Marks, base: Base, work: Work, rest: Rest) -> Store
-    requires setup { IsSetupWithin (setup_of settings) }
-    requires index { IsIndexed settings base }
-    requires paid { IsPaid settings base }
-    ensures tables { tables_of result ≡ tables_joined (setup_of settings) marks base work rest }
-    ensures own { GoesByTables result }
-{
-    let plans = Plans {
-        audit: work.audit,
-        recheck: work.recheck,
-        repair: work.repair,
-        exit: rest.exit,
-    };
-    Store {
-        keys: Keys::new(settings.secret),
-        settings,
-        marks,
-        nodes: base.nodes,
-        customers: base.customers,
-        segments: base.segments,
-        settled: base.paid.settled,
-        pay: base.paid.pay,
-        plans,
-        containments: work.containments,
-        kept: rest.kept,
-        left: base.left.rows,
-        tariffs: rest.tariffs,
-        stopped: false,
-    }
-}
 
 // The tables of these records, or the least broken rule in place of them.
 pub fn store_of(
@@ -82,31 +51,41 @@ pub fn store_of(
     ensures tables { IfOk result (λ s. tables_of s ≡ tables_made settings marks parts) }
     ensures own { IfOk result (λ s. GoesByTables s) }
 {
-    test_marks(alloc, &settings, &marks)?;
-    let base = BaseRows {
-        nodes: parts.nodes,
-        customers: parts.customers,
-        segments: parts.segments,
-        left: parts.left,
-        paid: PaidRows {
-            settled: parts.settled,
-            tallies: parts.tallies,
-            statements: parts.statements,
-        },
-    };
-    let base = base_of(alloc, &settings, &marks, parts.tariffs.as_slice(), base)?;
-    let work = WorkRows {
-        audit_plans: parts.audit_plans,
-        recheck_plans: parts.recheck_plans,
-        repair_plans: parts.repair_plans,
-        containments: parts.containments,
-    };
-    let work = work_of(alloc, &settings, &marks, &base, work)?;
-    let rest = RestRows {
-        kept: parts.kept,
-        exit_plans: parts.exit_plans,
-        tariffs: parts.tariffs,
-    };
-    let rest = rest_of(alloc, &settings, &marks, &base, rest)?;
-    Ok(joined(settings, marks, base, work, rest))
+    test_front(alloc, &settings, &marks, &parts)?;
+    let (others, paid) = untested_of(alloc, settings, marks, parts)?;
+    let sums = test_paid(alloc, &others, &paid)?;
+    let PaidRows {
+        segments,
+        settled,
+        tallies,
+        statements,
+    } = paid;
+    let pay = PayTables::of(
+        alloc,
+        tallies,
+        statements,
+        sums,
+        segments.as_slice(),
+        &settings,
+    )?;
+    let settled = settled_table(alloc, settings.caps.settled, settled)?;
+    // The index takes the list of segments that pay is made by, and the rest of the rules looks segments up in it.
+    let segments = index_of(alloc, &settings, &others.nodes, segments)?;
+    test_rest(alloc, &others, &segments)?;
+    Ok(Store {
+        settings,
+        keys: Keys::new(settings.secret),
+        marks,
+        nodes: others.nodes,
+        customers: others.customers,
+        segments,
+        settled,
+        pay,
+        plans: others.plans,
+        containments: SlottedRows::of(alloc, others.containments)?,
+        kept: SlottedRows::of(alloc, others.kept)?,
+        left: others.left,
+        tariffs: SlottedRows::of(alloc, others.tariffs)?,
+        stopped: false,
+    })
 }

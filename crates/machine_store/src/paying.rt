@@ -1,6 +1,7 @@
 // What pay goes by, as segments, orders, tallies and statements change. The laws of `pay_tables` that are called do
 // nothing: their contracts tell why the other calls may be made.
-ghost use Rattle.std.specs.Prelude.{◌≡◌, ◌*◌, ◌^◌, ◌<◌, true, List, OnOk};
+ghost use Rattle.std.specs.Prelude.{◌≡◌, ◌*◌, true, List, OnOk};
+ghost use Rattle.sat_base.specs.Moments.{IsMoment};
 ghost use Rattle.rows.specs.Rows.{Each, without};
 ghost use Rattle.rows.specs.Slots.{with_row};
 ghost use Rattle.segment_core.specs.Record.{segment_rank};
@@ -25,14 +26,14 @@ use pay_tables::{
     PayTables, a_segment_in_place_of_another, a_segment_that_is_there_is_stored, live_bytes,
     open_sums_are_small, rows_that_stay_stay_in_step, stored_bytes_have_room,
 };
-use sat_base::{Key, NoMemory, SegId, Settings};
+use sat_base::{Key, NoMemory, SegId, Settings, limits};
 use segment_core::Segment;
 use segment_index::SegmentIndex;
 use settlement::SettledRow;
 use tally_payout::{Statement, Tally};
 
 // The hour of the last moment.
-const LAST_TIMED_HOUR: u64 = ((1 << 36) - 1) / 3600;
+const LAST_TIMED_HOUR: u64 = (limits::MOMENTS - 1) / 3600;
 
 // Makes room for a segment.
 pub(crate) fn place_segment(store: &mut Store, segment: &Segment) -> Result<(), NoMemory>
@@ -221,8 +222,8 @@ fn release_segment(segments: &mut SegmentIndex, pay: &mut PayTables, segment: &S
 fn release_tally(pay: &mut PayTables, tally: &Tally)
     ensures rows { KeepsRows pay.old pay.new }
     ensures fewer { HasNoMoreSlots pay.old pay.new }
-    ensures row { tally.now.hour.0 * 3600 < 2 ^ 36 → IsFreed tally_rank pay.old.tallies pay.new.tallies (tally_rank tally.now) }
-    ensures sum { tally.now.hour.0 * 3600 < 2 ^ 36 → IsFreed open_rank pay.old.sums pay.new.sums (month_place (month_of_hour tally.now.hour.0) tally.now.node.0) }
+    ensures row { IsMoment (tally.now.hour.0 * 3600) → IsFreed tally_rank pay.old.tallies pay.new.tallies (tally_rank tally.now) }
+    ensures sum { IsMoment (tally.now.hour.0 * 3600) → IsFreed open_rank pay.old.sums pay.new.sums (month_place (month_of_hour tally.now.hour.0) tally.now.node.0) }
 {
     if tally.hour.0 <= LAST_TIMED_HOUR {
         pay.release_tally(tally);
@@ -246,18 +247,6 @@ pub(crate) fn release_paid(store: &mut Store, change: &RecChange)
         RecChange::SettledRow(row) => store.pay.release_order(row),
         RecChange::Tally(tally) => release_tally(&mut store.pay, tally),
         RecChange::Statement(statement) => store.pay.release_statement(statement),
-        RecChange::Settings(_)
-        | RecChange::Marks(_)
-        | RecChange::Node(_)
-        | RecChange::Customer(_)
-        | RecChange::AuditPlan(_)
-        | RecChange::RecheckPlan(_)
-        | RecChange::RepairPlan(_)
-        | RecChange::Containment(_)
-        | RecChange::Kept(_)
-        | RecChange::ExitPlan(_)
-        | RecChange::Left(_)
-        | RecChange::Tariff(_)
-        | RecChange::Remove(_) => {}
+        _ => {}
     }
 }

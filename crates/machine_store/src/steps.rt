@@ -93,12 +93,6 @@ fn place(store: &mut Store, change: &RecChange) -> Result<(), NoMemory>
     ensures losses { store.new.segments.room.lost ≡ store.old.segments.room.lost }
 {
     match change {
-        RecChange::Marks(_)
-        | RecChange::AuditPlan(_)
-        | RecChange::RecheckPlan(_)
-        | RecChange::RepairPlan(_)
-        | RecChange::ExitPlan(_)
-        | RecChange::Remove(_) => Ok(()),
         RecChange::Node(node) => place_node(&mut store.nodes, node),
         RecChange::Customer(customer) => store.customers.place(customer.rank()),
         RecChange::Segment(segment) => place_segment(store, segment),
@@ -110,6 +104,7 @@ fn place(store: &mut Store, change: &RecChange) -> Result<(), NoMemory>
         RecChange::Left(left) => store.left.place(left.rank()),
         RecChange::Tariff(tariff) => store.tariffs.place(tariff.rank()),
         RecChange::Settings(_) => unreachable!(),
+        _ => Ok(()),
     }
 }
 
@@ -142,14 +137,7 @@ fn release(store: &mut Store, change: &RecChange)
         | RecChange::SettledRow(_)
         | RecChange::Tally(_)
         | RecChange::Statement(_) => release_paid(store, change),
-        RecChange::Settings(_)
-        | RecChange::Marks(_)
-        | RecChange::Node(_)
-        | RecChange::AuditPlan(_)
-        | RecChange::RecheckPlan(_)
-        | RecChange::RepairPlan(_)
-        | RecChange::ExitPlan(_)
-        | RecChange::Remove(_) => {}
+        _ => {}
     }
 }
 

@@ -1,48 +1,51 @@
-// One table of records, where they keep its rule.
-ghost use Rattle.std.specs.Prelude.{◌≡◌, [], IfOk};
-ghost use Rattle.sat_base.specs.Ranks.{customer_rank, kept_rank, tariff_rank};
+// Single tables are made of records.
+ghost use Rattle.std.specs.Prelude.{◌≡◌, ◌≤◌, [], length, IfOk};
+ghost use Rattle.sat_base.specs.declared.limits.TheConstants as limits;
 ghost use Rattle.rows.specs.Rows.{IsRising};
+ghost use Rattle.node_registry.specs.Registry.{IsNumbered};
 ghost use Rattle.segment_core.specs.Record.{segment_rank};
-ghost use Rattle.machine_step.specs.Bounds.{IsSetupWithin};
-ghost use Rattle.machine_step.specs.Broken.{broken_nodes, broken_customers, broken_kept, broken_tariffs};
-ghost use Rattle.machine_step.specs.Tables.{setup_of};
-ghost use Rattle.machine_store.specs.Opening.{Tests};
+ghost use Rattle.settlement.specs.Rows.{key};
 ghost use Rattle.machine_store.specs.Store.{limits_of, lost_ids, KnowsLost};
 
-use crate::opening::{CoreErr, node_table, test_customers, test_kept, test_nodes, test_tariffs};
 use node_registry::{Node, NodeTable};
-use rows::SlottedRows;
-use sat_base::{Customer, Kept, Marks, Month, NoMemory, NodeId, Settings, Tariff};
+use sat_base::{NoMemory, NodeId, Settings};
 use segment_core::Segment;
 use segment_index::{Limits, SegmentIndex};
+use settlement::{Settled, SettledRow};
 use std::alloc::Global;
 
-pub(crate) fn nodes_of(
-    alloc: Global,
-    settings: &Settings,
-    marks: &Marks,
-    nodes: Vec<Node>,
-) -> Result<NodeTable, CoreErr>
-    requires { IsSetupWithin (setup_of settings.now) }
-    ensures rules { Tests result (broken_nodes (setup_of settings.now) marks.now nodes.items) }
+// A table of these nodes.
+pub(crate) fn node_table(alloc: Global, nodes: Vec<Node>) -> Result<NodeTable, NoMemory>
+    requires numbered { IsNumbered nodes.items }
+    requires within { length nodes.items ≤ limits.NODES }
     ensures nodes { IfOk result (λ table. table.nodes ≡ nodes.items) }
 {
-    test_nodes(alloc, settings, marks, nodes.as_slice())?;
-    Ok(node_table(alloc, nodes)?)
+    let mut table = NodeTable::new(alloc);
+    for node in nodes {
+        if table.add(node).is_err() {
+            return Err(NoMemory);
+        }
+    }
+    Ok(table)
 }
 
-pub(crate) fn customers_of(
+// A table of these settled orders, which will have at most `cap`.
+pub(crate) fn settled_table(
     alloc: Global,
-    settings: &Settings,
-    marks: &Marks,
-    customers: Vec<Customer>,
-) -> Result<SlottedRows<Customer>, CoreErr>
-    requires { IsRising customer_rank customers.items }
-    ensures rules { Tests result (broken_customers (setup_of settings.now) marks.now customers.items) }
-    ensures rows { IfOk result (λ table. table.rows ≡ customers.items) }
+    cap: u32,
+    rows: Vec<SettledRow>,
+) -> Result<Settled, NoMemory>
+    requires rising { IsRising key rows.items }
+    requires within { length rows.items ≤ cap }
+    ensures rows { IfOk result (λ table. table.rows ≡ rows.items) }
+    ensures cap { IfOk result (λ table. table.cap ≡ cap) }
 {
-    test_customers(alloc, settings, marks, customers.as_slice())?;
-    Ok(SlottedRows::of(alloc, customers)?)
+    let mut table = Settled::new(alloc, cap);
+    for row in rows {
+        table.reserve()?;
+        table.add(row);
+    }
+    Ok(table)
 }
 
 // With how many healthy pieces a segment needs repair.
@@ -84,32 +87,4 @@ pub(crate) fn index_of(
     let limits = limits_of(settings);
     let index = SegmentIndex::of(alloc, limits, segments, gone.as_slice())?;
     Ok(index)
-}
-
-pub(crate) fn kept_of(
-    alloc: Global,
-    marks: &Marks,
-    nodes: &NodeTable,
-    customers: &SlottedRows<Customer>,
-    rows: Vec<Kept>,
-) -> Result<SlottedRows<Kept>, CoreErr>
-    requires { IsRising kept_rank rows.items }
-    ensures rules { Tests result (broken_kept marks.now nodes.now.nodes customers.now.rows rows.items) }
-    ensures rows { IfOk result (λ table. table.rows ≡ rows.items) }
-{
-    test_kept(alloc, marks, nodes, customers, rows.as_slice())?;
-    Ok(SlottedRows::of(alloc, rows)?)
-}
-
-pub(crate) fn tariffs_of(
-    alloc: Global,
-    first: Month,
-    tariffs: Vec<Tariff>,
-) -> Result<SlottedRows<Tariff>, CoreErr>
-    requires { IsRising tariff_rank tariffs.items }
-    ensures rules { Tests result (broken_tariffs first.0 tariffs.items) }
-    ensures rows { IfOk result (λ table. table.rows ≡ tariffs.items) }
-{
-    test_tariffs(alloc, first, tariffs.as_slice())?;
-    Ok(SlottedRows::of(alloc, tariffs)?)
 }

@@ -1,8 +1,9 @@
 -- A containment that is asked for again was silent again at most twice.
-use Rattle.std.proofs.Common.{◌≡◌, ◌≤◌, Bool, true, false, Option, Some, None, arith}
-use Rattle.std.specs.Prelude.{if◌then◌else◌, nat_le}
+use Rattle.std.proofs.Common.{◌≡◌, ◌<◌, Bool, true, false, Option, Some, None, arith}
+use Rattle.std.specs.Prelude.{if◌then◌else◌, nat_lt}
 use Rattle.std.proofs.lemmas.Bool.Decides.{nat_tests}
 use Rattle.std.proofs.lemmas.Bool.{and_parts}
+use Rattle.sat_base.specs.declared.limits.TheConstants as limits
 use Rattle.sat_base.specs.Ranks.{containment_rank}
 use Rattle.sat_base.specs.declared.records.Containment.{Containment}
 use Rattle.node_registry.specs.Registry.{contained_at}
@@ -22,9 +23,9 @@ only-found test (Some x) row is = go (test x) is
     go true same = same
     go false same = cc
 
-pub few-tries : (t : Tables) (v : IsValid t) (plan : RecheckPlan) (row : Containment) → still_owed t plan ≡ Some row → row.tries ≤ 2
+pub few-tries : (t : Tables) (v : IsValid t) (plan : RecheckPlan) (row : Containment) → still_owed t plan ≡ Some row → row.tries < limits.TRIES
 few-tries t v plan row is =
     let there = only-found (is_as_planned plan) (contained_at t.containments plan.node) row is in
     let owes = all-found containment_rank (is_owed t.setup t.segments) t.containments plan.node.0 row (steady_of t v).containments.owed there in
-    let few = (and_parts (nat_le row.tries 2) (has_stripe t.setup (segment_at t.segments row.segment.0) row.stripe) owes).0 in
+    let few = (and_parts (nat_lt row.tries limits.TRIES) (has_stripe t.setup (segment_at t.segments row.segment.0) row.stripe) owes).0 in
     grind (arith, nat_tests, few)

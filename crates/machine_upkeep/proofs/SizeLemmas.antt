@@ -15,7 +15,7 @@ use Rattle.machine_step.specs.Tables.{Tables, is_no_size}
 use Rattle.machine_step.proofs.Calls.PlanExit.{first-got}
 use Rattle.machine_step.proofs.Calls.PlanRepair.{least-got}
 use Rattle.machine_step.proofs.Fits.{fine_found}
-use Rattle.machine_step.proofs.RowLemmas.{rising-got}
+use Rattle.machine_step.proofs.RowLemmas.{row_got}
 use Rattle.machine_step.proofs.SegmentSizes.{size-most}
 
 -- at least one byte, and at most 2^40
@@ -34,7 +34,7 @@ module _ (t : Tables) (v : IsValid t) where
 
   got-sized : (found : SegmentRecord) → Got t.segments found → IsSized found.len
   got-sized found got =
-      let at = rising-got segment_rank t.segments v.order.segments got.0 found got.1 in
+      let at = row_got segment_rank t.segments v.order.segments got.0 found got.1 in
       sized found.len (not-true _ (fine_found t v found.id.0 found at).sized)
 
   pub picked-sized : (word : ℕ) (found : SegmentRecord) → picked (live_segments t) word ≡ Some found → IsSized found.len

@@ -1,5 +1,6 @@
 // A silent node was asked again.
-ghost use Rattle.std.specs.Prelude.{◌≡◌, ◌≤◌, ◌∷◌, ◌++◌, [], IfOk};
+ghost use Rattle.std.specs.Prelude.{◌≡◌, ◌<◌, ◌∷◌, ◌++◌, [], IfOk};
+ghost use Rattle.sat_base.specs.declared.limits.TheConstants as limits;
 ghost use Rattle.machine_calls.specs.declared.change.RecChange.{RecChange};
 ghost use Rattle.machine_step.specs.Calls.EndRecheck.{is_as_planned, still_owed, settled_as, recheck_ended, end_recheck};
 ghost use Rattle.machine_step.specs.Bounds.{IsValid};
@@ -13,7 +14,7 @@ use audit_core::{Checked, RecheckPlan};
 use machine_calls::{RecChange, Refusal, Reply};
 use machine_store::{Prepared, Store, refused};
 use node_registry::Outcome;
-use sat_base::{Containment, Key, Moment, NoMemory, kinds};
+use sat_base::{Containment, Key, Moment, NoMemory, kinds, limits};
 use std::alloc::Global;
 
 // Whether the open recheck is this one.
@@ -95,14 +96,14 @@ fn recheck_ended(
     row: Containment,
 ) -> Result<Prepared, NoMemory>
     requires rated { AllRated store.now.nodes.nodes }
-    requires tries { row.tries ≤ 2 }
+    requires tries { row.tries < limits.TRIES }
     ensures { IfOk result (λ p. Holds p (recheck_ended (tables_of store.now) time checked row)) }
 {
     let changes = closing(alloc, store, time, kinds::RECHECK_PLAN)?;
     let (changes, tries) = match checked {
         Checked::Pass => (settled_as(store, changes, row, Outcome::Pass)?, row.tries),
         Checked::Fail => (settled_as(store, changes, row, Outcome::Fail)?, row.tries),
-        Checked::Silent if row.tries + 1 == 3 => {
+        Checked::Silent if row.tries + 1 == limits::TRIES => {
             (
                 settled_as(store, changes, row, Outcome::Fail)?,
                 row.tries + 1,

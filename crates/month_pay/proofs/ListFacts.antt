@@ -99,8 +99,3 @@ module _ {R : Type 0} (rank : R → ℕ) where
   pub any-with_row : (test : R → Bool) (rows : List R) (row : R) → row_at rank rows (rank row) ≡ None → test row ≡ false → list_any test (with_row rank rows row) ≡ list_any test rows
   any-with_row test [] row none out = grind (arith, nat_tests, out)
   any-with_row test (first ∷ rest) row none out = grind (arith, nat_tests, none, out, any-with_row test rest row)
-
-  -- what a test tells of each row it tells of one that is found
-  pub all_found_sound : (good : R → Bool) (rows : List R) (k : ℕ) (row : R) → list_all good rows ≡ true → row_at rank rows k ≡ Some row → good row ≡ true
-  all_found_sound good [] k row all found = cc
-  all_found_sound good (first ∷ rest) k row all found = grind (arith, nat_tests, all, found, all_found_sound good rest k row)

@@ -11,6 +11,7 @@ use Rattle.tally_payout.specs.Ranks.{month_place, statement_rank}
 use Rattle.node_registry.specs.Standing.{is_disqualified}
 use Rattle.month_pay.specs.Ledger.{Ledger, settled_in, tallied_in, has_joined, has_left, stated, sums_of}
 use Rattle.month_pay.specs.Rule.{is_sound_statement}
+use Rattle.sat_base.specs.declared.limits.TheConstants as limits
 
 -- each node that has joined by a month has a statement of it
 abbrev pub Covers : List Statement → ℕ → List Node → Type 0
@@ -72,5 +73,5 @@ pub record AreFit (l : Ledger) : Type 0 where
   pub bytes : Each (λ row. row.bytes ≤ 2 ^ 44) l.tallies
   pub hours : length l.tallies ≤ 4194304
   pub rates : Each (λ tariff. IsRates tariff.rates) l.tariffs
-  pub last : l.next ≤ 49775
+  pub last : l.next ≤ limits.LAST_MONTH
   pub begins : 23640 ≤ l.first

@@ -19,6 +19,8 @@ ghost use Rattle.tally_payout.specs.declared.amounts.Tally.{Tally};
 ghost use Rattle.tally_payout.specs.Statement.{last_pot};
 ghost use Rattle.tally_payout.specs.Tariff.{IsSums};
 ghost use Rattle.std.specs.List.{sum_by};
+ghost use Rattle.sat_base.specs.Moments.{IsMoment};
+ghost use Rattle.sat_base.specs.declared.limits.TheConstants as limits;
 ghost use Rattle.month_pay.specs.Rule.{is_sound_statement, broken_places};
 ghost use Rattle.tally_payout.specs.declared.amounts.Statement.{Statement};
 ghost use Rattle.rows.specs.Least.{least};
@@ -31,7 +33,7 @@ pub fn months_of_moments()
     ensures order { (at later : ℕ) → at ≤ later → month_at at ≤ month_at later }
     ensures begun { (month at : ℕ) → nat_le (first_day month) (at / 86400) ≡ nat_le month (month_at at) }
     ensures hour { (at : ℕ) → month_of_hour (at / 3600) ≡ month_at at }
-    ensures last { (at : ℕ) → at < 2 ^ 36 → month_at at ≤ 49775 }
+    ensures last { (at : ℕ) → IsMoment at → month_at at ≤ limits.LAST_MONTH }
 {}
 
 /// The rule has no broken place exactly where each closed month of each node has its one statement, as it follows

@@ -44,7 +44,7 @@ module _ {R : Type 0} (rank : R → ℕ) where
   pub next_behind : (rows : List R) (i : ℕ) (row : R) → IsRising rank rows → slice_get rows i ≡ Some row → with_row rank (take i rows) row ≡ take (i + 1) rows
   next_behind rows i row rising got = let next : suc i ≡ i + 1 = omega arith in behind_one rows i row rising got ∙ ap (λ (n : ℕ). take n rows) next
 
-each-take : {X : Type 0} (P : X → Type 0) (i : ℕ) (xs : List X) → Each P xs → Each P (take i xs)
+pub each-take : {X : Type 0} (P : X → Type 0) (i : ℕ) (xs : List X) → Each P xs → Each P (take i xs)
 each-take P zero xs each = tt
 each-take P (suc i) [] each = tt
 each-take P (suc i) (x ∷ xs) each = (each.0, each-take P i xs each.1)

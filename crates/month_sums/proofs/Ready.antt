@@ -12,8 +12,7 @@ use Rattle.tally_payout.specs.Ranks.{month_place, statement_rank}
 use Rattle.month_pay.specs.Ledger.{Ledger, pot_before, sums_of}
 use Rattle.month_pay.specs.Rule.{is_sound_statement}
 use Rattle.month_pay.specs.Keeping.{AreNodes, AreFit, RuleHolds}
-use Rattle.rows.proofs.Found.{rank-found}
-use Rattle.month_pay.proofs.ListFacts.{all_found_sound}
+use Rattle.rows.proofs.Found.{rank-found, all-found}
 use Rattle.month_pay.proofs.Closing.{old-below}
 use Rattle.month_pay.proofs.Amounts.{sums_fit, rated, pots_fit}
 use Rattle.tally_payout.proofs.TariffLemmas.{rates_fit}
@@ -55,7 +54,7 @@ module _ (l : Ledger) (nodes : AreNodes l.nodes) (begun : l.first ≤ l.next) wh
       go None at = at
       go (Some s) at =
           let rank : statement_rank s ≡ month_place l.next node.0 = rank-found statement_rank l.statements (month_place l.next node.0) s at in
-          let sound = all_found_sound statement_rank (is_sound_statement l) l.statements (month_place l.next node.0) s h.all at in
+          let sound = all-found statement_rank (is_sound_statement l) l.statements (month_place l.next node.0) s h.all at in
           absurd (omega (arith, rank, old-below l nodes begun s sound))
 
   sums-are : (cap : ℕ) (sums : List OpenSums) → RuleHolds cap l → GoByRows sums l.settled l.tallies l.statements → (xs : List Node) → Each (λ node. node.id.0 < 2 ^ 32) xs → Each (λ node. 0 < node.id.0) xs

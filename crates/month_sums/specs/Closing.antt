@@ -1,5 +1,6 @@
 -- A month's statements, as they are made of what is kept beside the rows.
 use Rattle.std.specs.Prelude.{◌≡◌, ℕ, ◌+◌, ◌-◌, ◌^◌, ◌<◌, ◌≤◌, ◌&&◌, false, List, [], ◌∷◌, ◌++◌, length, if◌then◌else◌, Some, slice_get}
+use Rattle.sat_base.specs.declared.limits.TheConstants as limits
 use Rattle.sat_base.specs.declared.rates.Rates.{Rates}
 use Rattle.node_registry.specs.declared.node.Node.{Node}
 use Rattle.tally_payout.specs.declared.amounts.Statement.{Statement}
@@ -36,7 +37,7 @@ rows_by month sums left rates _ _ = []
 
 -- the bounds are kept, and no node is both disqualified and gone in good order
 pub record CanClose (month : ℕ) (nodes : List Node) (pots : List ℕ) (sums : List OpenSums) (left : List Left) (rates : Rates) : Type 0 where
-  pub early : month ≤ 49775
+  pub early : month ≤ limits.LAST_MONTH
   pub long : length pots ≡ length nodes
   pub small : (i pot : ℕ) → slice_get pots i ≡ Some pot → pot < 2 ^ 100
   pub fit : (i : ℕ) (node : Node) → slice_get nodes i ≡ Some node → IsSums (sums_at sums month node.id)

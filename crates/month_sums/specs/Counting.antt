@@ -1,5 +1,6 @@
 -- The rows that can be counted: in their order, and no more than a store can have.
 use Rattle.std.specs.Prelude.{ℕ, ◌*◌, ◌^◌, ◌<◌, ◌≤◌, List, length}
+use Rattle.sat_base.specs.Moments.{IsMoment}
 use Rattle.rows.specs.Rows.{Each, IsRising}
 use Rattle.sat_base.specs.declared.limits.TheConstants as limits
 use Rattle.settlement.specs.declared.row.SettledRow.{SettledRow}
@@ -19,4 +20,4 @@ pub record AreHours (rows : List Tally) : Type 0 where
   pub rising : IsRising tally_rank rows
   pub small : Each (λ row. row.bytes ≤ 2 ^ 44) rows
   pub few : length rows ≤ limits.TALLIES
-  pub early : Each (λ row. row.hour.0 * 3600 < 2 ^ 36) rows
+  pub early : Each (λ row. IsMoment (row.hour.0 * 3600)) rows

@@ -1,4 +1,5 @@
 ghost use Rattle.std.specs.Prelude.{◌≡◌, ℕ, ◌^◌, ◌<◌, ◌≤◌, ◌&&◌, ◌++◌, false, IfOk, OnOk};
+ghost use Rattle.sat_base.specs.declared.limits.TheConstants as limits;
 ghost use Rattle.tally_payout.specs.Tariff.{IsSums, IsRates};
 ghost use Rattle.month_pay.specs.Months.{month_at};
 ghost use Rattle.node_registry.specs.Standing.{is_disqualified};
@@ -56,7 +57,7 @@ fn close_one(
     left: &SlottedRows<Left>,
     rates: &Rates,
 ) -> Statement
-    requires early { month.0 ≤ 49775 }
+    requires early { month.0 ≤ limits.LAST_MONTH }
     requires joined { month_at node.now.joined ≤ month.0 }
     requires pot { pot < 2 ^ 100 }
     requires sums { IsSums (sums_at sums.now.rows month.0 node.now.id) }
@@ -81,7 +82,7 @@ fn add_row(
     left: &SlottedRows<Left>,
     rates: &Rates,
 ) -> Result<(), NoMemory>
-    requires early { month.0 ≤ 49775 }
+    requires early { month.0 ≤ limits.LAST_MONTH }
     requires pot { pot < 2 ^ 100 }
     requires sums { IsSums (sums_at sums.now.rows month.0 node.now.id) }
     requires rates { IsRates rates.now }

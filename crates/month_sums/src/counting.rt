@@ -1,5 +1,6 @@
 // What each node did in each month, counted over all rows.
-ghost use Rattle.std.specs.Prelude.{◌≡◌, ℕ, ◌*◌, ◌^◌, ◌<◌, ◌≤◌, map, replicate, List, [], None, IfOk, OnOk};
+ghost use Rattle.std.specs.Prelude.{◌≡◌, ℕ, ◌*◌, ◌^◌, ◌<◌, map, replicate, List, [], None, IfOk, OnOk};
+ghost use Rattle.sat_base.specs.Moments.{IsMoment};
 ghost use Rattle.rows.specs.Rows.{Each, row_at};
 ghost use Rattle.rows.specs.Slots.{with_row};
 ghost use Rattle.settlement.specs.declared.row.SettledRow.{SettledRow};
@@ -45,7 +46,7 @@ fn count_settled(counted: &mut SlottedRows<OpenSums>, row: &SettledRow) -> Resul
 
 // Counts a tally where there may be no slot yet.
 fn count_tally(counted: &mut SlottedRows<OpenSums>, tally: &Tally) -> Result<(), NoMemory>
-    requires hour { tally.now.hour.0 * 3600 < 2 ^ 36 }
+    requires hour { IsMoment (tally.now.hour.0 * 3600) }
     requires room { tally.now.node.0 < 2 ^ 32 → IsSums (sums_at counted.old.rows (month_of_hour tally.now.hour.0) tally.now.node) }
     ensures { OnOk result ((settled : List SettledRow) (tallies : List Tally) (statements : List Statement)
         → row_at tally_rank tallies (tally_rank tally.now) ≡ None → GoByRows counted.old.rows settled tallies statements

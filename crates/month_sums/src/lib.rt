@@ -22,6 +22,6 @@ mod tally;
 pub use closing::{close_all, month_at};
 pub use counting::{count_all, no_pots, sums_due};
 pub use laws::what_is_kept_closes_a_month;
-pub use opening::{Found, first_broken};
+pub use opening::{Found, Stated, first_broken};
 pub use sums::{OpenSums, add_settled, place_of, sums_at};
 pub use tally::add_tally;

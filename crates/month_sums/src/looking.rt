@@ -1,5 +1,6 @@
 // Looks at one statement.
 ghost use Rattle.std.specs.Prelude.{◌≡◌, ℕ, ◌^◌, ◌<◌, ◌≤◌, ◌==◌, ◌||◌, ◌&&◌, not, List, ◌∷◌, drop, Some, option_copied, slice_get};
+ghost use Rattle.sat_base.specs.declared.limits.TheConstants as limits;
 ghost use Rattle.tally_payout.specs.Tariff.{IsSums, IsRates};
 ghost use Rattle.tally_payout.specs.Statement.{statement_of};
 ghost use Rattle.month_pay.specs.Months.{month_at};
@@ -15,7 +16,7 @@ ghost use Rattle.node_registry.specs.declared.node.Node.{Node};
 ghost use Rattle.tally_payout.specs.declared.amounts.Sums.{Sums};
 
 use crate::closing::{has_left, is_disqualified, month_at};
-use crate::opening::Found;
+use crate::opening::{Found, Stated};
 use crate::sums::place_of;
 use node_registry::{Left, Node};
 use rows::SlottedRows;
@@ -78,7 +79,7 @@ fn state_as(
     left: &SlottedRows<Left>,
     rates: &Rates,
 ) -> Statement
-    requires early { month.0 ≤ 49775 }
+    requires early { month.0 ≤ limits.LAST_MONTH }
     requires joined { month_at node.now.joined ≤ month.0 }
     requires sums { IsSums sums.now }
     requires pot { pot < 2 ^ 100 }
@@ -114,7 +115,7 @@ fn follows(
     left: &SlottedRows<Left>,
     rates: &Rates,
 ) -> bool
-    requires early { month.0 ≤ 49775 }
+    requires early { month.0 ≤ limits.LAST_MONTH }
     requires joined { month_at node.now.joined ≤ month.0 }
     requires sums { IsSums sums.now }
     requires pot { pot < 2 ^ 100 }
@@ -130,39 +131,40 @@ fn follows(
 /// Looks at the statement at place i, where that of this node and month is due.
 pub(crate) fn test_one(
     i: usize,
-    cap: usize,
     month: Month,
     node: &Node,
-    rows: &[Statement],
+    stated: &Stated,
     sums: &Sums,
     pot: u128,
-    left: &SlottedRows<Left>,
     rates: &Rates,
 ) -> Found
-    requires early { month.0 ≤ 49775 }
+    requires early { month.0 ≤ limits.LAST_MONTH }
     requires joined { month_at node.now.joined ≤ month.0 }
     requires sums { IsSums sums.now }
     requires pot { pot < 2 ^ 100 }
     requires rates { IsRates rates.now }
     ensures pass { (l : Ledger) (keys : List ℕ)
-        → ((s : Statement) → slice_get rows.now i ≡ Some s → statement_rank s ≡ month_place month.0 node.now.id.0
-        → GoByNode l month.0 node.now sums.now pot left.now.rows rates.now)
-        → node.now.id.0 < 2 ^ 32 → Each (λ s. s.node.0 < 2 ^ 32) rows.now
-        → walk (is_good cap l) i (month_place month.0 node.now.id.0 ∷ keys) (drop i rows.now) ≡ pass_after (is_good cap l) keys rows.now result }
+        → ((s : Statement) → slice_get stated.now.rows.now i ≡ Some s → statement_rank s ≡ month_place month.0 node.now.id.0
+        → GoByNode l month.0 node.now sums.now pot stated.now.left.now.rows rates.now)
+        → node.now.id.0 < 2 ^ 32 → Each (λ s. s.node.0 < 2 ^ 32) stated.now.rows.now
+        → walk (is_good stated.now.cap l) i (month_place month.0 node.now.id.0 ∷ keys) (drop i stated.now.rows.now) ≡ pass_after (is_good stated.now.cap l) keys stated.now.rows.now result }
     ensures next { (l : Ledger) (n : ℕ)
-        → ((s : Statement) → slice_get rows.now i ≡ Some s → statement_rank s ≡ month_place month.0 node.now.id.0
-        → GoByNode l month.0 node.now sums.now pot left.now.rows rates.now)
-        → node.now.id.0 < 2 ^ 32 → Each (λ s. s.node.0 < 2 ^ 32) rows.now
-        → result ≡ Found.Next n → IsNext l rows.now (month_place month.0 node.now.id.0) i n }
+        → ((s : Statement) → slice_get stated.now.rows.now i ≡ Some s → statement_rank s ≡ month_place month.0 node.now.id.0
+        → GoByNode l month.0 node.now sums.now pot stated.now.left.now.rows rates.now)
+        → node.now.id.0 < 2 ^ 32 → Each (λ s. s.node.0 < 2 ^ 32) stated.now.rows.now
+        → result ≡ Found.Next n → IsNext l stated.now.rows.now (month_place month.0 node.now.id.0) i n }
 {
     let due = place_of(month, node.id);
-    let s = match at(rows, i) {
+    let s = match at(stated.rows, i) {
         Some(s) => s,
         None => return Found::Broken(due),
     };
     let place = place_of(s.month, s.node);
     if place == due {
-        let good = both(i < cap, follows(s, month, node, sums, pot, left, rates));
+        let good = both(
+            i < stated.cap,
+            follows(s, month, node, sums, pot, stated.left, rates),
+        );
         if good {
             Found::Next(i + 1)
         } else {

@@ -1,5 +1,6 @@
 // The pass over all statements.
 ghost use Rattle.std.specs.Prelude.{◌≡◌, ℕ, Bool, min, length, replicate, All, [], ◌^◌, ◌<◌, ◌≤◌, List, ◌++◌, drop, Some, option_copied, slice_get};
+ghost use Rattle.sat_base.specs.declared.limits.TheConstants as limits;
 ghost use Rattle.tally_payout.specs.Tariff.{IsSums, IsRates};
 ghost use Rattle.tally_payout.specs.Ranks.{month_place};
 ghost use Rattle.month_pay.specs.Ledger.{Ledger, has_joined};
@@ -19,6 +20,16 @@ use node_registry::{Left, Node};
 use rows::SlottedRows;
 use sat_base::{Month, Rates, Tariff};
 use tally_payout::{Statement, Sums, rates_in};
+
+/// The statements, of which there may be at most `cap`, and what they go by: the sums of each one's month and node, and
+/// the nodes that left.
+#[derive(Drop)]
+pub struct Stated<'a> {
+    pub cap: usize,
+    pub rows: &'a [Statement],
+    pub sums: &'a [Sums],
+    pub left: &'a SlottedRows<Left>,
+}
 
 /// What comes of looking at one statement that is due.
 #[derive(Clone, Copy)]
@@ -54,33 +65,23 @@ fn own_sums(sums: &[Sums], i: usize) -> Sums
 }
 
 // Looks at the statement at place i, where a node's is due, if the node has joined.
-fn look(
-    i: usize,
-    cap: usize,
-    month: Month,
-    node: &Node,
-    rows: &[Statement],
-    sums: &[Sums],
-    pot: u128,
-    left: &SlottedRows<Left>,
-    rates: &Rates,
-) -> Found
-    requires early { month.0 ≤ 49775 }
-    requires sums { Each IsSums sums.now }
+fn look(i: usize, month: Month, node: &Node, stated: &Stated, pot: u128, rates: &Rates) -> Found
+    requires early { month.0 ≤ limits.LAST_MONTH }
+    requires sums { Each IsSums stated.now.sums.now }
     requires pot { pot < 2 ^ 100 }
     requires rates { IsRates rates.now }
     ensures pass { (l : Ledger) (keys : List ℕ) (nodes : List Node) (j : ℕ) (pots : List ℕ)
-        → GoByMonth l month.0 nodes rows.now sums.now left.now.rows rates.now → Front l nodes rows.now i pots
+        → GoByMonth l month.0 nodes stated.now.rows.now stated.now.sums.now stated.now.left.now.rows rates.now → Front l nodes stated.now.rows.now i pots
         → slice_get nodes j ≡ Some node.now → slice_get pots j ≡ Some pot
-        → walk (is_good cap l) i (due_of month.0 node.now ++ keys) (drop i rows.now) ≡ pass_after (is_good cap l) keys rows.now result }
+        → walk (is_good stated.now.cap l) i (due_of month.0 node.now ++ keys) (drop i stated.now.rows.now) ≡ pass_after (is_good stated.now.cap l) keys stated.now.rows.now result }
     ensures next { (l : Ledger) (n : ℕ) (nodes : List Node) (j : ℕ) (pots : List ℕ)
-        → GoByMonth l month.0 nodes rows.now sums.now left.now.rows rates.now → Front l nodes rows.now i pots
+        → GoByMonth l month.0 nodes stated.now.rows.now stated.now.sums.now stated.now.left.now.rows rates.now → Front l nodes stated.now.rows.now i pots
         → slice_get nodes j ≡ Some node.now → slice_get pots j ≡ Some pot
-        → result ≡ Found.Next n → LooksOn (has_joined month.0 node.now) l rows.now (month_place month.0 node.now.id.0) i n }
+        → result ≡ Found.Next n → LooksOn (has_joined month.0 node.now) l stated.now.rows.now (month_place month.0 node.now.id.0) i n }
 {
     if has_joined(node, month) {
-        let own = own_sums(sums, i);
-        test_one(i, cap, month, node, rows, &own, pot, left, rates)
+        let own = own_sums(stated.sums, i);
+        test_one(i, month, node, stated, &own, pot, rates)
     } else {
         Found::Next(i)
     }
@@ -117,36 +118,33 @@ fn advance(pots: &mut [u128], j: usize, rows: &[Statement], i: usize, n: usize)
 /// those that the month's left.
 pub fn test_month(
     start: usize,
-    cap: usize,
     month: Month,
     nodes: &[Node],
-    rows: &[Statement],
-    sums: &[Sums],
+    stated: &Stated,
     pots: &mut [u128],
-    left: &SlottedRows<Left>,
     rates: &Rates,
 ) -> Found
-    requires early { month.0 ≤ 49775 }
-    requires sums { Each IsSums sums.now }
+    requires early { month.0 ≤ limits.LAST_MONTH }
+    requires sums { Each IsSums stated.now.sums.now }
     requires rates { IsRates rates.now }
     requires long { length pots.old ≡ length nodes.now }
     requires small { AreSmall pots.old }
     ensures long { length pots.new ≡ length pots.old }
     ensures small { AreSmall pots.new }
     ensures pass { (l : Ledger) (keys : List ℕ)
-        → GoByMonth l month.0 nodes.now rows.now sums.now left.now.rows rates.now → Front l nodes.now rows.now start pots.old
-        → walk (is_good cap l) start (due_in month.0 nodes.now ++ keys) (drop start rows.now) ≡ pass_after (is_good cap l) keys rows.now result }
+        → GoByMonth l month.0 nodes.now stated.now.rows.now stated.now.sums.now stated.now.left.now.rows rates.now → Front l nodes.now stated.now.rows.now start pots.old
+        → walk (is_good stated.now.cap l) start (due_in month.0 nodes.now ++ keys) (drop start stated.now.rows.now) ≡ pass_after (is_good stated.now.cap l) keys stated.now.rows.now result }
     ensures front { (l : Ledger) (n : ℕ)
-        → GoByMonth l month.0 nodes.now rows.now sums.now left.now.rows rates.now → Front l nodes.now rows.now start pots.old
-        → result ≡ Found.Next n → Front l nodes.now rows.now n pots.new }
+        → GoByMonth l month.0 nodes.now stated.now.rows.now stated.now.sums.now stated.now.left.now.rows rates.now → Front l nodes.now stated.now.rows.now start pots.old
+        → result ≡ Found.Next n → Front l nodes.now stated.now.rows.now n pots.new }
 {
     let mut i = start;
     for j in 0..nodes.len() {
-        let found = look(i, cap, month, &nodes[j], rows, sums, pots[j], left, rates);
+        let found = look(i, month, &nodes[j], stated, pots[j], rates);
         match found {
             Found::Broken(_) => return found,
             Found::Next(n) => {
-                advance(pots, j, rows, i, n);
+                advance(pots, j, stated.rows, i, n);
                 i = n;
             }
         }
@@ -159,33 +157,30 @@ pub fn test_month(
 pub fn first_broken(
     first: Month,
     next: Month,
-    cap: usize,
     nodes: &[Node],
-    rows: &[Statement],
-    sums: &[Sums],
+    stated: &Stated,
     pots: &mut [u128],
-    left: &SlottedRows<Left>,
     tariffs: &[Tariff],
 ) -> Option<u64>
     requires begun { first.0 ≤ next.0 }
-    requires early { next.0 ≤ 49775 }
-    requires sums { Each IsSums sums.now }
+    requires early { next.0 ≤ limits.LAST_MONTH }
+    requires sums { Each IsSums stated.now.sums.now }
     requires rates { All (λ t. IsRates t.rates) tariffs.now }
     requires pots { pots.old ≡ replicate (length nodes.now) 0 }
-    ensures { (l : Ledger) → GoByAll l first.0 next.0 nodes.now rows.now sums.now left.now.rows tariffs.now
-        → result ≡ least (broken_places cap l) }
+    ensures { (l : Ledger) → GoByAll l first.0 next.0 nodes.now stated.now.rows.now stated.now.sums.now stated.now.left.now.rows tariffs.now
+        → result ≡ least (broken_places stated.now.cap l) }
 {
     let mut i = 0;
     for m in first.0..next.0 {
         let month = Month(m);
         let rates = rates_in(tariffs, month);
-        let found = test_month(i, cap, month, nodes, rows, sums, pots, left, &rates);
+        let found = test_month(i, month, nodes, stated, pots, &rates);
         match found {
             Found::Broken(place) => return Some(place),
             Found::Next(n) => i = n,
         }
     }
-    place_at(rows, i)
+    place_at(stated.rows, i)
 }
 
 // The place of the statement at i, if there is one.

@@ -1,4 +1,5 @@
-ghost use Rattle.std.specs.Prelude.{◌≡◌, ◌*◌, ◌^◌, ◌<◌, ◌≤◌, true, List, None};
+ghost use Rattle.std.specs.Prelude.{◌≡◌, ◌*◌, ◌^◌, ◌<◌, true, List, None};
+ghost use Rattle.sat_base.specs.Moments.{IsMoment};
 ghost use Rattle.rows.specs.Rows.{row_at};
 ghost use Rattle.rows.specs.Slots.{has_slot, with_row};
 ghost use Rattle.settlement.specs.declared.row.SettledRow.{SettledRow};
@@ -17,7 +18,7 @@ use tally_payout::{Sums, Tally};
 
 // The month in which an hour begins.
 pub(crate) fn month_of_hour(hour: u64) -> Month
-    requires { hour * 3600 < 2 ^ 36 }
+    requires { IsMoment (hour * 3600) }
     ensures { result.0 ≡ month_of_hour hour }
 {
     month_at(Moment::of(hour * 3600))
@@ -44,7 +45,7 @@ pub(crate) fn node_tallied(tally: &Tally) -> NodeId
 
 /// Counts a tally. It takes no memory.
 pub fn add_tally(rows: &mut SlottedRows<OpenSums>, tally: &Tally)
-    requires hour { tally.now.hour.0 * 3600 < 2 ^ 36 }
+    requires hour { IsMoment (tally.now.hour.0 * 3600) }
     requires slot { has_slot rows.old (month_place (month_of_hour tally.now.hour.0) tally.now.node.0) ≡ true }
     requires room { IsSums (sums_at rows.old.rows (month_of_hour tally.now.hour.0) tally.now.node) }
     ensures slots { rows.new.slots ≡ rows.old.slots }

@@ -18,7 +18,7 @@ use Rattle.repair_core.specs.declared.outcome.Mended.{Mended}
 use Rattle.repair_core.specs.declared.rebuilt.Remade.{Remade}
 use Rattle.repair_core.specs.Indexes.{has_index, place_indexes}
 use Rattle.repair_core.specs.Rebuilt.{fresh_piece}
-use Rattle.repair_core.proofs.Rising.{kept_are, member_has, all_among, rises_head}
+use Rattle.repair_core.proofs.Rising.{kept_are, member_has, all_among, rises_head, rises_tail}
 use Rattle.machine_step.specs.Containment.{has_piece, same_place}
 use Rattle.machine_step.specs.Health.{are_among}
 use Rattle.machine_step.specs.Calls.PlanRepair.{has_index as has_index_at}
@@ -35,9 +35,6 @@ use Rattle.node_asks.proofs.SourceLemmas.{all_pass, all_some, rises_some}
 use Rattle.node_asks.proofs.SpreadLemmas.{indexes_at, pieces-indexes}
 use Rattle.named_segments.specs.Repairs.{HoldsPiece, IsHeld, KeepsPieces, is_sound_piece}
 use Rattle.machine_step.proofs.SameLemmas.{same-place}
-
-rises_tail : (x : ℕ) (xs : List ℕ) → Rises (x ∷ xs) → Rises xs
-rises_tail x xs rises i j before within = rises (suc i) (suc j) (omega arith) (omega arith)
 
 -- what holds of the indexes holds of the pieces
 above_at : (xs : List At) (n k : ℕ) (d : At) → k < length xs → All (λ y. n < y) (place_indexes xs) → n < (get_or xs k d).index

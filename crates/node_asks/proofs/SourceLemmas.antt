@@ -25,7 +25,7 @@ use Rattle.repair_core.specs.Progress.{Progress}
 use Rattle.repair_core.specs.Stripes.{altered_indexes, longer}
 use Rattle.repair_core.specs.Windows.{IsWindow, after, empty_piece}
 use Rattle.repair_core.proofs.Marks.{has_index-append}
-use Rattle.repair_core.proofs.Rising.{all_among, member_has, rises_head, rises_cons, has_above}
+use Rattle.repair_core.proofs.Rising.{all_among, member_has, rises_head, rises_cons, has_above, rises_tail}
 use Rattle.node_asks.specs.declared.answers.Answered.{Answered}
 use Rattle.node_asks.specs.declared.remaking.Heeded.{Heeded}
 use Rattle.node_asks.specs.Answers.{lacking_in, places_in, shares_in, sharing_in}
@@ -37,9 +37,6 @@ use Rattle.node_asks.proofs.RemakeLemmas.{shares_all, shares_rise, sharing-index
 use Rattle.node_asks.proofs.SpreadLemmas.{indexes_at, pieces-indexes}
 
 -- ---- rising numbers
-
-rises_tail : (x : ℕ) (xs : List ℕ) → Rises (x ∷ xs) → Rises xs
-rises_tail x xs rises i j before within = rises (suc i) (suc j) (omega arith) (omega arith)
 
 pub all_some : (P : ℕ → Type 0) (test : ℕ → Bool) (xs : List ℕ) → All P xs → All P (filter test xs)
 all_some P test [] all = All-nil P

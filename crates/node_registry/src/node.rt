@@ -1,4 +1,5 @@
 ghost use Rattle.std.specs.Prelude.{◌≡◌};
+ghost use Rattle.node_registry.specs.Registry.{joining};
 ghost use Rattle.node_registry.specs.Standing.{byte_of, is_counted, is_serving};
 ghost use Rattle.node_registry.specs.Subnet.{subnet_at};
 
@@ -47,6 +48,23 @@ pub struct Node {
 }
 
 impl Node {
+    /// A node as it joins: active, and no audit of it passed or failed.
+    pub fn joining(id: NodeId, addr: u32, port: u16, free: u64, joined: Moment) -> Node
+        ensures { result ≡ joining id addr port free joined }
+    {
+        Node {
+            id,
+            addr,
+            port,
+            free,
+            joined,
+            alpha: FIRST_ALPHA,
+            beta: 0,
+            passes: 0,
+            status: Status::Active,
+        }
+    }
+
     /// Whether its pieces count as healthy.
     pub fn counts(&self) -> bool
         ensures { result ≡ is_counted self.now.status }

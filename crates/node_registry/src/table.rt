@@ -1,13 +1,11 @@
 ghost use Rattle.std.specs.Prelude.{◌≡◌, ◌+◌, ◌-◌, ◌<◌, ◌≤◌, ◌↔◌, ◌++◌, ◌∷◌, ℕ, [], length, Err, IsSome, IfSome, IsOk, OnOk, OnErr, is_ok, if◌then◌else◌, option_copied, vec_capacity, vec_len};
+ghost use Rattle.sat_base.specs.declared.limits.TheConstants as limits;
 ghost use Rattle.node_registry.specs.Registry.{Nodes, node_at, with_node, IsNumbered, IsKept};
 
 use crate::node::Node;
-use sat_base::{NoMemory, NodeId};
+use sat_base::{NoMemory, NodeId, limits};
 use std::alloc::Global;
 use std::marker::Model;
-
-// The most nodes that a table has.
-const NODE_CAP: u32 = 65536;
 
 /// Why a node isn't added.
 #[derive(Clone, Copy, Debug, PartialEq, Eq)]
@@ -53,7 +51,7 @@ impl NodeTable {
     /// How many nodes there are.
     pub fn len(&self) -> usize
         ensures len { result ≡ length self.now.nodes }
-        ensures within { result ≤ 65536 }
+        ensures within { result ≤ limits.NODES }
     {
         self.nodes.len()
     }
@@ -84,17 +82,17 @@ impl NodeTable {
         requires { node.id.0 ≡ length self.old.nodes + 1 }
         ensures nodes { self.new.nodes
             ≡ (if is_ok result then self.old.nodes ++ node ∷ [] else self.old.nodes) }
-        ensures full { (result ≡ Err (AddErr.Full 65536)) ↔ (length self.old.nodes ≡ 65536) }
-        ensures cap { (cap : ℕ) → result ≡ Err (AddErr.Full cap) → cap ≡ 65536 }
+        ensures full { (result ≡ Err (AddErr.Full limits.NODES)) ↔ (length self.old.nodes ≡ limits.NODES) }
+        ensures cap { (cap : ℕ) → result ≡ Err (AddErr.Full cap) → cap ≡ limits.NODES }
 
         // Where there is room, it takes no memory.
-        ensures room { 0 < self.old.spare_nodes → length self.old.nodes < 65536 → IsOk result }
+        ensures room { 0 < self.old.spare_nodes → length self.old.nodes < limits.NODES → IsOk result }
         ensures spare_nodes { OnOk result (0 < self.old.spare_nodes
             → self.new.spare_nodes + 1 ≡ self.old.spare_nodes) }
         ensures err { OnErr result (self.new ≡ self.old) }
     {
-        if self.nodes.len() == NODE_CAP as usize {
-            return Err(AddErr::Full { cap: NODE_CAP });
+        if self.nodes.len() == limits::NODES as usize {
+            return Err(AddErr::Full { cap: limits::NODES });
         }
         if make_room(&mut self.nodes).is_err() {
             return Err(AddErr::NoMemory);

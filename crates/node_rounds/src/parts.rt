@@ -17,6 +17,14 @@ use std::alloc::Global;
 use std::sync::Wait;
 use turnstile::Desk;
 
+// What all parts of a round go by. `gate` passes a point: a worker's method may not hand on a gate, which threads share.
+#[derive(Drop)]
+pub(crate) struct RoundContext<'a, F> {
+    pub alloc: Global,
+    pub store: &'a RoundStore,
+    pub gate: &'a F,
+}
+
 // Passes the gate before nodes are asked. A recheck has none.
 fn pass_gate<F: Fn(Point)>(pass: &F, kind: Upkeep)
     requires { F.IsAlwaysCallable pass.now }
@@ -28,31 +36,28 @@ fn pass_gate<F: Fn(Point)>(pass: &F, kind: Upkeep)
     }
 }
 
-// Makes one part of a round, with room for two places. It tells why the round ends, where it does. `gate` passes a point:
-// a worker's method may not hand on a gate, which threads share.
+// Makes one part of a round, with room for two places. It tells why the round ends, where it does.
 pub(crate) fn part<K: Keeper, N: Nodes, T: Clock, W: Words, I: Ticks, F: Fn(Point), R: Wait>(
     rt: &R,
-    alloc: Global,
     desk: &Desk<Book<K>>,
     pass: BookPass<K>,
-    store: &RoundStore,
+    context: &RoundContext<F>,
     scratch: &mut Scratch,
     kind: Upkeep,
     kit: &mut Kit<N, T, W, I>,
-    gate: &F,
     places: &mut Vec<u64>,
 ) -> (BookPass<K>, Option<RoundEnd>)
     requires desk { pass.desk ≡ desk.now }
-    requires base { IsSomeAnd pass.base (λ origin. IsStoreOf origin.opening store.now.keys store.now.scheme) }
-    requires points { store.now.scheme.n ≤ scratch.old.points }
-    requires gate { F.IsAlwaysCallable gate.now }
+    requires base { IsSomeAnd pass.base (λ origin. IsStoreOf origin.opening context.now.store.now.keys context.now.store.now.scheme) }
+    requires points { context.now.store.now.scheme.n ≤ scratch.old.points }
+    requires gate { F.IsAlwaysCallable context.now.gate.now }
     requires room { length places.old.items + 2 ≤ vec_capacity places.old }
-    ensures does { Does store.now.keys store.now.scheme kind
+    ensures does { Does context.now.store.now.keys context.now.store.now.scheme kind
         (kit_view (nodes_view N.held N.asks N.faults) T.coming W.left W.faults I.about kit.old) pass result.1
         (kit_view (nodes_view N.held N.asks N.faults) T.coming W.left W.faults I.about kit.new) result.0 places.old places.new }
     ensures points { scratch.new.points ≡ scratch.old.points }
 {
-    let (pass, answered) = plan(rt, alloc, desk, pass, kind, kit, places);
+    let (pass, answered) = plan(rt, context.alloc, desk, pass, kind, kit, places);
     let reply = match answered {
         Ok(reply) => reply,
         Err(end) => return (pass, Some(end)),
@@ -60,10 +65,10 @@ pub(crate) fn part<K: Keeper, N: Nodes, T: Clock, W: Words, I: Ticks, F: Fn(Poin
     if !is_plan_of(kind, &reply) {
         return (pass, went_at(&reply));
     }
-    pass_gate(gate, kind);
-    let found = match ask(alloc, store, scratch, &mut kit.nodes, reply) {
+    pass_gate(context.gate, kind);
+    let found = match ask(context.alloc, context.store, scratch, &mut kit.nodes, reply) {
         Ok(found) => found,
         Err(_) => return (pass, Some(RoundEnd::NoMemory)),
     };
-    finish(rt, desk, pass, store, found, &mut kit.clock, places)
+    finish(rt, desk, pass, context.store, found, &mut kit.clock, places)
 }

@@ -6,7 +6,7 @@ ghost use Rattle.node_rounds.specs.Parts.{kit_view};
 ghost use Rattle.node_rounds.specs.Works.{Rounds};
 
 use crate::kit::{Kit, RoundStore};
-use crate::parts::part;
+use crate::parts::{RoundContext, part};
 use crate::upkeep::{Upkeep, end_of};
 use bw_decode::Scratch;
 use sat_base::{Clock, Keeper, Nodes, Point, Ticks, Words};
@@ -22,57 +22,33 @@ const ENTRIES: usize = 4;
 // Makes one part of a round, and the second one where the first didn't end it. Room for all places is made first.
 fn round<K: Keeper, N: Nodes, T: Clock, W: Words, I: Ticks, F: Fn(Point), R: Wait>(
     rt: &R,
-    alloc: Global,
     desk: &Desk<Book<K>>,
     pass: BookPass<K>,
-    store: &RoundStore,
+    context: &RoundContext<F>,
     scratch: &mut Scratch,
     first: Upkeep,
     second: Upkeep,
     kit: &mut Kit<N, T, W, I>,
-    gate: &F,
 ) -> (BookPass<K>, Round)
     requires desk { pass.desk ≡ desk.now }
-    requires base { IsSomeAnd pass.base (λ origin. IsStoreOf origin.opening store.now.keys store.now.scheme) }
-    requires points { store.now.scheme.n ≤ scratch.old.points }
-    requires gate { F.IsAlwaysCallable gate.now }
-    ensures rounds { Rounds store.now.keys store.now.scheme first second
+    requires base { IsSomeAnd pass.base (λ origin. IsStoreOf origin.opening context.now.store.now.keys context.now.store.now.scheme) }
+    requires points { context.now.store.now.scheme.n ≤ scratch.old.points }
+    requires gate { F.IsAlwaysCallable context.now.gate.now }
+    ensures rounds { Rounds context.now.store.now.keys context.now.store.now.scheme first second
         (kit_view (nodes_view N.held N.asks N.faults) T.coming W.left W.faults I.about kit.old) pass result.1
         (kit_view (nodes_view N.held N.asks N.faults) T.coming W.left W.faults I.about kit.new) result.0 }
     ensures points { scratch.new.points ≡ scratch.old.points }
 {
-    let mut places = Vec::new(alloc);
+    let mut places = Vec::new(context.alloc);
     if places.reserve(ENTRIES).is_err() {
         let end = RoundEnd::NoMemory;
         return (pass, Round { places, end });
     }
-    let (pass, went) = part(
-        rt,
-        alloc,
-        desk,
-        pass,
-        store,
-        scratch,
-        first,
-        kit,
-        gate,
-        &mut places,
-    );
+    let (pass, went) = part(rt, desk, pass, context, scratch, first, kit, &mut places);
     if let Some(end) = went {
         return (pass, Round { places, end });
     }
-    let (pass, went) = part(
-        rt,
-        alloc,
-        desk,
-        pass,
-        store,
-        scratch,
-        second,
-        kit,
-        gate,
-        &mut places,
-    );
+    let (pass, went) = part(rt, desk, pass, context, scratch, second, kit, &mut places);
     let end = end_of(went);
     (pass, Round { places, end })
 }
@@ -104,18 +80,9 @@ pub fn audit_round<K: Keeper, N: Nodes, T: Clock, W: Words, I: Ticks, F: Fn(Poin
         (kit_view (nodes_view N.held N.asks N.faults) T.coming W.left W.faults I.about kit.new) result.0 }
     ensures points { scratch.new.points ≡ scratch.old.points }
 {
-    round(
-        rt,
-        alloc,
-        desk,
-        pass,
-        store,
-        scratch,
-        Upkeep::Recheck,
-        Upkeep::Audit,
-        kit,
-        gate,
-    )
+    let context = RoundContext { alloc, store, gate };
+    let (first, second) = (Upkeep::Recheck, Upkeep::Audit);
+    round(rt, desk, pass, &context, scratch, first, second, kit)
 }
 
 /// Repairs a segment, and then moves a piece of a node that leaves: for each of the two it draws 128 words, enters the
@@ -142,16 +109,7 @@ pub fn repair_round<K: Keeper, N: Nodes, T: Clock, W: Words, I: Ticks, F: Fn(Poi
         (kit_view (nodes_view N.held N.asks N.faults) T.coming W.left W.faults I.about kit.new) result.0 }
     ensures points { scratch.new.points ≡ scratch.old.points }
 {
-    round(
-        rt,
-        alloc,
-        desk,
-        pass,
-        store,
-        scratch,
-        Upkeep::Repair,
-        Upkeep::Exit,
-        kit,
-        gate,
-    )
+    let context = RoundContext { alloc, store, gate };
+    let (first, second) = (Upkeep::Repair, Upkeep::Exit);
+    round(rt, desk, pass, &context, scratch, first, second, kit)
 }

@@ -30,11 +30,11 @@ ok_is : {A : Type 0} (a b : A) → done a ≡ done b → a ≡ b
 ok_is a b e = cc
 
 -- the first and the second piece, and a third
-part-first : (a b : List ℕ) (n : ℕ) → length a ≡ n → part 0 n (a ++ b) ≡ a
+pub part-first : (a b : List ℕ) (n : ℕ) → length a ≡ n → part 0 n (a ++ b) ≡ a
 unfolding part
 part-first a b n h = take_at a b n h
 
-part-second : (a b c : List ℕ) (n m : ℕ) → length a ≡ n → length b ≡ m → part n m (a ++ b ++ c) ≡ b
+pub part-second : (a b c : List ℕ) (n m : ℕ) → length a ≡ n → length b ≡ m → part n m (a ++ b ++ c) ≡ b
 unfolding part
 part-second a b c n m h k = rw (append_assoc a b c, drop_at a (b ++ c) n h) (take_at b c m k)
 

@@ -1,5 +1,5 @@
 -- Rows of uses stand in the order of their keys exactly where they rise by serial.
-use Rattle.std.proofs.Common.{◌≡◌, ◌<◌, ◌+◌, ◌*◌, ◌/◌, ◌%◌, ◌^◌, ℕ, zero, suc, Bool, true, false, ◌&&◌, List, [], ◌∷◌, ◌++◌, map, T, refl, sym, ◌∙◌, ap, subst, arith, lit<}
+use Rattle.std.proofs.Common.{◌≡◌, ◌<◌, ◌+◌, ◌*◌, ◌/◌, ◌%◌, ◌^◌, ℕ, zero, suc, List, [], ◌∷◌, map, T, refl, sym, ◌∙◌, ap, subst, arith, lit<}
 use Rattle.std.specs.Ordering.{nat_cmp, ordering_then, is_lt, MatchOrdering}
 use Rattle.std.specs.declared.cmp.Ordering.{Ordering}
 use Rattle.std.specs.declared.cmp.Ordering.TheVariants.{Less, Equal, Greater}
@@ -12,7 +12,7 @@ use Rattle.std.proofs.Math.Arith.{mod-mul}
 use Rattle.std.proofs.Math.Nat.{mod-one, mod-lt, mod-eq_of_lt, mul-le-mul_right, pow-succ'}
 use Rattle.rows.specs.Rows.{Each, AllAbove, IsRising}
 use Rattle.sat_base.specs.Rows.{Key, AreInOrder, entry, key_cmp, key_of}
-use Rattle.sat_base.specs.declared.rows.Row.{Row}
+use Rattle.sat_base.proofs.RowLists.{both, split}
 use Rattle.order_uses.specs.Opening.{HasSerial}
 use Rattle.order_uses.specs.Rows.{row_of_use, use_id}
 use Rattle.order_uses.specs.Uses.{use_rank}
@@ -70,14 +70,6 @@ use_key one = key_of (row_of_use one)
 pub keys_cmp : (a b : OrderUse) → HasSerial a → HasSerial b → key_cmp (use_key a) (use_key b) ≡ nat_cmp a.serial.0 b.serial.0
 keys_cmp a b fa fb = id_cmp a.serial.0 b.serial.0 fa fb
 
-both : (a b : Bool) → T a → T b → T (a && b)
-both true b p q = q
-both false b p q = p
-
-split : (a b : Bool) → T (a && b) → T a × T b
-split true b h = (tt, h)
-split false b h = absurd h
-
 lower : (x y : ℕ) → T (is_lt (nat_cmp x y)) → x < y
 lower x y h =
     elim (nat_cmp x y) as (λ o. o ≡ nat_cmp x y → T (is_lt o) → x < y) [
@@ -116,11 +108,3 @@ order_of_rising [] each rising = tt
 order_of_rising (one ∷ rest) each rising = both _ _ (below_of one rest each.0 each.1 rising.0) (order_of_rising rest each.1 rising.1)
 
 -- ---- the rows at the front of some
-
-below_front : (k : Key) (xs ys : List Row) → T (below_all key_cmp k (map entry (xs ++ ys))) → T (below_all key_cmp k (map entry xs))
-below_front k [] ys h = tt
-below_front k (x ∷ xs) ys h = let s = split _ _ h in both _ _ s.0 (below_front k xs ys s.1)
-
-pub order_front : (xs ys : List Row) → AreInOrder (xs ++ ys) → AreInOrder xs
-order_front [] ys order = tt
-order_front (x ∷ xs) ys order = let s = split _ _ order in both _ _ (below_front (key_of x) xs ys s.0) (order_front xs ys s.1)

@@ -8,13 +8,14 @@ use Rattle.rows.specs.Slots.{with_row}
 use Rattle.rows.proofs.RisingLemmas.{with_row-end}
 use Rattle.sat_base.specs.Rows.{AreInOrder}
 use Rattle.sat_base.specs.declared.rows.Row.{Row}
+use Rattle.sat_base.proofs.RowLists.{order_front}
 use Rattle.order_uses.specs.Opening.{AreRowsOf, HasSerial, IsUse, Names, NamesFirst}
 use Rattle.order_uses.specs.Rows.{row_of_use}
 use Rattle.order_uses.specs.Uses.{IsUnderKey, use_rank}
 use Rattle.order_uses.specs.declared.opening.UsesErr.{UsesErr}
 use Rattle.order_uses.specs.declared.opening.UsesErr.TheVariants as errs
 use Rattle.order_uses.specs.declared.row.OrderUse.{OrderUse}
-use Rattle.order_uses.proofs.KeyLemmas.{order_front, rising_of}
+use Rattle.order_uses.proofs.KeyLemmas.{rising_of}
 
 -- ---- a row behind all others
 

@@ -4,7 +4,6 @@ use Rattle.std.specs.Prelude.{◌==◌, nat_le}
 use Rattle.std.specs.Cmp.Lexicographic.{pointwise, same_text, nat_list_eq_equiv}
 use Rattle.std.specs.Int.{w64, to_be_bytes, from_be_bytes}
 use Rattle.std.proofs.lemmas.Bool.{and_parts, eqb-true, eq-eqb, leb-true, le-leb}
-use Rattle.std.proofs.lemmas.List.{take_at, drop_at}
 use Rattle.std.proofs.lemmas.Nat.{from_be_bytes-to_be_bytes_8}
 use Rattle.std.proofs.lemmas.Option.{same_Some}
 use Rattle.sat_base.specs.declared.rows.Row.{Row}
@@ -13,7 +12,7 @@ use Rattle.order_limits.specs.Read.{number_in, offer_of}
 use Rattle.order_limits.specs.declared.limit.Order.{Order}
 use Rattle.order_limits.specs.declared.read.OrderErr.{OrderErr}
 use Rattle.order_limits.proofs.Fields.{IsBytes, IsBytes-part, part-join, part-whole, part-one, word_back}
-use Rattle.order_limits.proofs.Reading.{offer_fits, offer_long}
+use Rattle.order_limits.proofs.Reading.{offer_fits, offer_long, part-first, part-second}
 use Rattle.order_uses.specs.Opening.{HasSerial, IsUse}
 use Rattle.order_uses.specs.Reading.{flag_in, use_made, use_flagged, use_in}
 use Rattle.order_uses.specs.Rows.{flag, use_body, use_id, row_of_use}
@@ -26,14 +25,6 @@ if_then true x y e = (refl, e)
 if_then false x y e = absurd cc
 
 -- ---- bodies
-
-part-first : (a b : List ℕ) (n : ℕ) → length a ≡ n → part 0 n (a ++ b) ≡ a
-unfolding part
-part-first a b n h = take_at a b n h
-
-part-second : (a b c : List ℕ) (n m : ℕ) → length a ≡ n → length b ≡ m → part n m (a ++ b ++ c) ≡ b
-unfolding part
-part-second a b c n m h k = rw (append_assoc a b c, drop_at a (b ++ c) n h) (take_at b c m k)
 
 last_at : (xs : List ℕ) (y n : ℕ) → length xs ≡ n → get_or (xs ++ y ∷ []) n 0 ≡ y
 last_at [] y zero h = refl

@@ -1,10 +1,10 @@
 -- What contracts see of the uses over a keeper, and what each call does to them.
-use Rattle.std.specs.Prelude.{◌≡◌, ◌⊎◌, ℕ, ◌≤◌, true, List, [], ◌∷◌, map, Option, Some, None, Result, Ok, Err}
+use Rattle.std.specs.Prelude.{◌≡◌, ℕ, true, List, [], ◌∷◌, map, Option, Some, None, Result, Ok, Err}
 use Rattle.rows.specs.Rows.{Each}
 use Rattle.rows.specs.Slots.{with_row}
-use Rattle.sat_base.specs.Outside.{Counts, Rose}
-use Rattle.sat_base.specs.Keeper.{CommitsTo, failed_commit}
-use Rattle.sat_base.specs.Rows.{Rows, AreInOrder, AreThe, rows_of, changed}
+use Rattle.sat_base.specs.Outside.{Rose}
+use Rattle.sat_base.specs.Keeper.{KeeperView, AreOf, Commits, Loads, Stays}
+use Rattle.sat_base.specs.Rows.{Rows, AreInOrder, rows_of}
 use Rattle.sat_base.specs.declared.ids.NodeId.{NodeId}
 use Rattle.sat_base.specs.declared.keeper.Committed.{Committed}
 use Rattle.sat_base.specs.declared.keeper.Committed.TheVariants as committed
@@ -51,41 +51,23 @@ said_of_finish committed.Done = Ok tt
 said_of_finish committed.Fault = Err errs.Fault
 said_of_finish committed.NoMemory = Err errs.NoMemory
 
-module _ {K : Type 0} (faults : K → ℕ) (is_clean is_open tells : K → Type 0) (rows_at : K → Rows) (leaves : K → Rows → Type 0) where
-  -- no row of the keeper changed
-  pub record Stays (old new : K) : Type 0 where
-    pub clean : is_clean new → is_clean old
-    pub opened : is_open new → is_open old
-    pub told : is_open new → tells old → tells new
-    pub kept : is_open new → tells old → rows_at new ≡ rows_at old
-    pub crash : is_clean new → (m : Rows) → leaves new m → leaves old m
-    pub counted : faults old ≤ faults new
-
-  -- the rows that a keeper had, where it tells
-  abbrev pub Had : K → K → List Row → Type 0
-  Had old new loaded = is_open new → tells old → AreThe (rows_at old) loaded
-
-  -- all rows were loaded
-  pub record Loads (old new : K) (loaded : List Row) : Type 0 where
-    pub ordered : AreInOrder loaded
-    pub stays : Stays old new
-    pub had : Had old new loaded
-
+module _ {K : Type 0} (about : K → KeeperView) where
   -- the uses are those of the keeper's rows
   pub record LoadsUses (key : List ℕ) (old new : K) (uses : List OrderUse) : Type 0 where
     pub loaded : List Row
-    pub loads : Loads old new loaded
+    pub loads : Loads (about old) (about new) loaded
     pub are : AreRowsOf key loaded uses
 
   -- why no uses are opened: the keeper's count rose, or a row of it is none of a use
   abbrev pub IsCause : List ℕ → K → K → UsesErr → Type 0
-  IsCause key old new errs.Fault = Rose (faults old) (faults new)
-  IsCause key old new (errs.BadRow kind id) = (loaded : List Row) × AreInOrder loaded × Had old new loaded × IsFirstBad key loaded kind id
+  IsCause key old new errs.Fault = Rose (about old).faults (about new).faults
+  IsCause key old new (errs.BadRow kind id) = (loaded : List Row) × AreInOrder loaded × AreOf (about old) (about new) loaded × IsFirstBad key loaded kind id
   IsCause key old new errs.NoMemory = Unit {0}
 
   -- a keeper is handed back with its rows as they were
   pub record Refuses (key : List ℕ) (old new : K) (why : UsesErr) : Type 0 where
-    pub stays : Stays old new
+    pub stays : Stays (about old) (about new)
+    pub crash : (about new).is_clean → (m : Rows) → (about new).leaves m → (about old).leaves m
     pub cause : IsCause key old new why
 
   -- uses of the rows of the keeper that was handed in
@@ -100,35 +82,25 @@ module _ {K : Type 0} (faults : K → ℕ) (is_clean is_open tells : K → Type 
   pub record IsKept (uses : UsesView K) : Type 0 where
     pub are : AreUses uses.key uses.rows
     pub serials : Each HasSerial uses.rows
-    pub clean : is_clean uses.keeper → is_clean uses.first
-    pub opened : is_open uses.keeper → is_open uses.first
-    pub told : is_open uses.keeper → tells uses.first → tells uses.keeper
-    pub kept : is_open uses.keeper → tells uses.first → rows_at uses.keeper ≡ store_of uses.rows
+    pub clean : (about uses.keeper).is_clean → (about uses.first).is_clean
+    pub opened : (about uses.keeper).is_open → (about uses.first).is_open
+    pub told : (about uses.keeper).is_open → (about uses.first).tells → (about uses.keeper).tells
+    pub kept : (about uses.keeper).is_open → (about uses.first).tells → (about uses.keeper).rows ≡ store_of uses.rows
 
   -- what an open keeper of uses leaves at a crash, where it tells: the rows of these uses, and no others
   pub record IsLeft (uses : UsesView K) : Type 0 where
-    pub these : is_open uses.keeper → tells uses.first → leaves uses.keeper (store_of uses.rows)
-    pub no_other : is_open uses.keeper → tells uses.first → (m : Rows) → leaves uses.keeper m → m ≡ store_of uses.rows
-
-  -- what a commit of these changes that was answered so does to a keeper
-  pub record Commits (changes : List Change) (answer : Committed) (old new : K) : Type 0 where
-    pub clean : is_clean new → is_clean old
-    pub opened : is_open new → is_open old
-    pub told : is_open new → tells old → tells new
-    pub to_rows : is_open new → tells old → CommitsTo answer (rows_at old) (changed changes (rows_at old)) (rows_at new)
-    pub crash : is_clean new → (m : Rows) → leaves new m → leaves old m ⊎ (is_open old × (tells old → m ≡ changed changes (rows_at old)))
-    pub shown_open : answer ≡ committed.Done → is_clean new → is_open new
-    pub counts : Counts (failed_commit answer) (faults old) (faults new)
+    pub these : (about uses.keeper).is_open → (about uses.first).tells → (about uses.keeper).leaves (store_of uses.rows)
+    pub no_other : (about uses.keeper).is_open → (about uses.first).tells → (m : Rows) → (about uses.keeper).leaves m → m ≡ store_of uses.rows
 
   -- a row is put, in a commit that was answered so. Where it isn't done the rows stay
   pub record Writes (row : OrderUse) (answer : Committed) (old new : UsesView K) : Type 0 where
     pub same : new ≡ record old { rows = rows_by answer old.rows row; keeper = new.keeper }
-    pub commits : Commits (putting row) answer old.keeper new.keeper
+    pub commits : Commits (putting row) answer (about old.keeper) (about new.keeper)
 
   -- what a take answers after the commit
   abbrev pub said_of_take : Committed → K → K → Result (Unit {0}) TakeErr
   said_of_take committed.Done old new = Ok tt
-  said_of_take committed.Fault old new = Err (no.Fault (faults old) (faults new))
+  said_of_take committed.Fault old new = Err (no.Fault (about old).faults (about new).faults)
   said_of_take committed.NoMemory old new = Err no.NoMemory
 
   -- a refused take changes nothing, and doesn't call the keeper. The row of another is committed, and only then answered by Ok

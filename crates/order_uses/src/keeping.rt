@@ -1,7 +1,8 @@
 // A row is put into the keeper, and only then among the rows in memory.
 ghost use Rattle.std.specs.Prelude.{◌≡◌};
 ghost use Rattle.order_uses.specs.Opening.{HasSerial};
-ghost use Rattle.order_uses.specs.View.{Commits, putting, rows_by};
+ghost use Rattle.order_uses.specs.View.{putting, rows_by};
+ghost use Rattle.sat_base.specs.Keeper.{Commits};
 
 use crate::row::OrderUse;
 use crate::stored::put_change;
@@ -11,7 +12,7 @@ use std::alloc::Global;
 
 // Commits the row of a use.
 fn commit_row<K: Keeper>(alloc: Global, keeper: &mut K, row: &OrderUse) -> Committed
-    ensures { Commits K.faults K.is_clean K.is_open K.tells K.rows K.leaves (putting row.now) result keeper.old keeper.new }
+    ensures { Commits (putting row.now) result (K.about keeper.old) (K.about keeper.new) }
 {
     let Ok(changes) = put_change(alloc, row) else {
         return Committed::NoMemory;
@@ -29,7 +30,7 @@ pub(crate) fn keep_row<K: Keeper>(
     requires { HasSerial row }
     ensures rows { table.new.rows ≡ rows_by result table.old.rows row }
     ensures key { table.new.key ≡ table.old.key }
-    ensures commits { Commits K.faults K.is_clean K.is_open K.tells K.rows K.leaves (putting row) result keeper.old keeper.new }
+    ensures commits { Commits (putting row) result (K.about keeper.old) (K.about keeper.new) }
 {
     if table.reserve().is_err() {
         return Committed::NoMemory;

@@ -45,10 +45,10 @@ pub(crate) fn load_uses<K: Keeper>(
     keeper: &mut K,
     key: &[u8; 32],
 ) -> Result<UseTable, UsesErr>
-    ensures ok { IfOk result (λ table. LoadsUses K.faults K.is_clean K.is_open K.tells K.rows K.leaves
+    ensures ok { IfOk result (λ table. LoadsUses K.about
         key.now keeper.old keeper.new table.rows) }
     ensures key { IfOk result (λ table. table.key ≡ key.now) }
-    ensures bad { IfErr result (Refuses K.faults K.is_clean K.is_open K.tells K.rows K.leaves
+    ensures bad { IfErr result (Refuses K.about
         key.now keeper.old keeper.new) }
 {
     match keeper.load(alloc) {

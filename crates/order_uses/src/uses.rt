@@ -60,7 +60,7 @@ impl<K: Keeper> Model for Uses<K> {
       keeper = u.keeper;
     } };
 
-    ghost invariant = { λ u. IsKept K.faults K.is_clean K.is_open K.tells K.rows K.leaves (record {
+    ghost invariant = { λ u. IsKept K.about (record {
       rows = u.table.rows;
       node = u.node;
       key = u.table.key;
@@ -83,8 +83,8 @@ impl<K: Keeper> Uses<K> {
         key: [u8; 32],
         cap: u32,
     ) -> Result<Uses<K>, (K, UsesErr)>
-        ensures opened { IfOk result (Opens K.faults K.is_clean K.is_open K.tells K.rows K.leaves keeper node key cap) }
-        ensures refused { IfErr result (λ no. Refuses K.faults K.is_clean K.is_open K.tells K.rows K.leaves
+        ensures opened { IfOk result (Opens K.about keeper node key cap) }
+        ensures refused { IfErr result (λ no. Refuses K.about
             key keeper no.0 no.1) }
     {
         let mut keeper = keeper;
@@ -108,7 +108,7 @@ impl<K: Keeper> Uses<K> {
     /// only where the keeper's count rose, between the two counts, and `NoMemory` has no cause that a clause names; both
     /// leave the rows.
     pub fn take(&mut self, now: u64, wanted: &Wanted) -> Result<(), TakeErr>
-        ensures { Takes K.faults K.is_clean K.is_open K.tells K.rows K.leaves
+        ensures { Takes K.about
             (take_case self.old.node self.old.key self.old.cap self.old.rows now wanted.now) self.old result self.new }
     {
         self.note_moment(now);
@@ -141,7 +141,7 @@ impl<K: Keeper> Uses<K> {
     /// rows.
     pub fn finish(&mut self, serial: Serial) -> Result<(), UsesErr>
         requires { IsSome (use_at self.old.rows serial) }
-        ensures { Finishes K.faults K.is_clean K.is_open K.tells K.rows K.leaves
+        ensures { Finishes K.about
             (use_at self.old.rows serial) self.old result self.new }
     {
         let mut row = self.row_kept(serial);
@@ -165,8 +165,8 @@ impl<K: Keeper> Uses<K> {
     /// The keeper. Where it is open and tells, it has just the rows of these uses, and leaves them at a crash.
     pub fn keeper(&self) -> &K
         ensures keeper { result.now ≡ self.now.keeper }
-        ensures kept { IsKept K.faults K.is_clean K.is_open K.tells K.rows K.leaves self.now }
-        ensures left { IsLeft K.faults K.is_clean K.is_open K.tells K.rows K.leaves self.now }
+        ensures kept { IsKept K.about self.now }
+        ensures left { IsLeft K.about self.now }
     {
         &self.keeper
     }
@@ -174,8 +174,8 @@ impl<K: Keeper> Uses<K> {
     /// The keeper, without the uses.
     pub fn into_keeper(self) -> K
         ensures keeper { result ≡ self.keeper }
-        ensures kept { IsKept K.faults K.is_clean K.is_open K.tells K.rows K.leaves self }
-        ensures left { IsLeft K.faults K.is_clean K.is_open K.tells K.rows K.leaves self }
+        ensures kept { IsKept K.about self }
+        ensures left { IsLeft K.about self }
     {
         let Uses {
             alloc: _,
@@ -190,7 +190,7 @@ impl<K: Keeper> Uses<K> {
 
     // How often the keeper failed.
     fn count(&self) -> u64
-        ensures { result ≡ K.faults self.now.keeper }
+        ensures { result ≡ (K.about self.now.keeper).faults }
     {
         self.keeper.count()
     }
@@ -219,7 +219,7 @@ impl<K: Keeper> Uses<K> {
     fn keep(&mut self, row: OrderUse) -> Committed
         requires under { IsUnderKey self.old.key row }
         requires serial { HasSerial row }
-        ensures { Writes K.faults K.is_clean K.is_open K.tells K.rows K.leaves row result self.old self.new }
+        ensures { Writes K.about row result self.old self.new }
     {
         keep_row(self.alloc, &mut self.keeper, &mut self.table, row)
     }

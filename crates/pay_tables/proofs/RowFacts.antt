@@ -4,7 +4,7 @@ use Rattle.std.specs.Prelude.{◌==◌, slice_get}
 use Rattle.std.specs.List.{sum_by}
 use Rattle.std.proofs.lemmas.Bool.Decides.{nat_tests}
 use Rattle.std.proofs.lemmas.List.Sums.{sum_by_push}
-use Rattle.rows.specs.Rows.{Each, row_at}
+use Rattle.rows.specs.Rows.{row_at}
 
 taken : {X : Type 0} (xs : List X) (i : ℕ) (x : X) → slice_get xs i ≡ Some x → take (suc i) xs ≡ take i xs ++ x ∷ []
 taken {X = X} [] i x got = absurd cc
@@ -17,11 +17,6 @@ take-got xs i x got = let next : i + 1 ≡ suc i = omega arith in ap (λ (n : �
 
 pub sum-got : {X : Type 0} (f : X → ℕ) (xs : List X) (i : ℕ) (x : X) → slice_get xs i ≡ Some x → sum_by f (take (i + 1) xs) ≡ sum_by f (take i xs) + f x
 sum-got f xs i x got = ap (sum_by f) (take-got xs i x got) ∙ sum_by_push f (take i xs) x
-
-pub each-take : {X : Type 0} (P : X → Type 0) (i : ℕ) (xs : List X) → Each P xs → Each P (take i xs)
-each-take P zero xs each = tt
-each-take P (suc i) [] each = tt
-each-take P (suc i) (x ∷ xs) each = (each.0, each-take P i xs each.1)
 
 -- the rank of each row is there
 pub not-there : {X : Type 0} (rank : X → ℕ) (xs : List X) (i k : ℕ) (x : X) → row_at rank xs k ≡ None → slice_get xs i ≡ Some x → (rank x == k) ≡ false

@@ -1,5 +1,6 @@
 -- What is kept beside the rows is in step with them.
 use Rattle.std.specs.Prelude.{◌*◌, ◌^◌, ◌<◌, ◌≤◌, List, length}
+use Rattle.sat_base.specs.Moments.{IsMoment}
 use Rattle.sat_base.specs.declared.limits.TheConstants as limits
 use Rattle.rows.specs.Rows.{Each, IsRising}
 use Rattle.segment_core.specs.Record.{SegmentRecord}
@@ -28,4 +29,4 @@ pub record IsInStep (setup : Setup) (segments : List SegmentRecord) (settled : L
   pub few : length settled ≤ limits.SETTLED
   pub rising : IsRising tally_rank p.tallies.rows
   pub bytes : Each (λ row. row.bytes ≤ 2 ^ 44) p.tallies.rows
-  pub early : Each (λ row. row.hour.0 * 3600 < 2 ^ 36) p.tallies.rows
+  pub early : Each (λ row. IsMoment (row.hour.0 * 3600)) p.tallies.rows

@@ -1,5 +1,6 @@
 -- What can be put without taking memory, and what a change leaves as it is.
 use Rattle.std.specs.Prelude.{◌≡◌, ℕ, ◌*◌, ◌^◌, ◌<◌, ◌≤◌, true, false, List, None}
+use Rattle.sat_base.specs.Moments.{IsMoment}
 use Rattle.sat_base.specs.declared.ids.NodeId.{NodeId}
 use Rattle.sat_base.specs.declared.records.At.{At}
 use Rattle.rows.specs.Rows.{Each, row_at}
@@ -24,7 +25,7 @@ pub record IsTallyPlaceable (p : PayTables) (tally : Tally) : Type 0 where
   pub absent : row_at tally_rank p.tallies.rows (tally_rank tally) ≡ None
   pub unstated : IsOpen p (month_of_hour tally.hour.0) tally.node
   pub small : tally.bytes ≤ 2 ^ 44
-  pub early : tally.hour.0 * 3600 < 2 ^ 36
+  pub early : IsMoment (tally.hour.0 * 3600)
 
 -- a statement goes behind all others
 abbrev pub IsStatementPlaceable : PayTables → Statement → Type 0

@@ -1,5 +1,6 @@
 // Tables of given rows.
 ghost use Rattle.std.specs.Prelude.{◌≡◌, ◌+◌, ◌*◌, ◌^◌, ◌<◌, ◌≤◌, List, [], length, IfOk, OnOk};
+ghost use Rattle.sat_base.specs.Moments.{IsMoment};
 ghost use Rattle.sat_base.specs.declared.limits.TheConstants as limits;
 ghost use Rattle.sat_base.specs.declared.ids.NodeId.{NodeId};
 ghost use Rattle.rows.specs.Rows.{Each, IsRising};
@@ -97,7 +98,7 @@ impl PayTables {
         ensures statements { IfOk result (λ p. p.statements.rows ≡ statements.items) }
         ensures step { IfOk result (λ p. (settled : List SettledRow) → GoByRows counted.rows settled tallies.items []
             → Each IsSmallOrder settled → length settled ≤ limits.SETTLED
-            → Each (λ row. row.bytes ≤ 2 ^ 44) tallies.items → Each (λ row. row.hour.0 * 3600 < 2 ^ 36) tallies.items
+            → Each (λ row. row.bytes ≤ 2 ^ 44) tallies.items → Each (λ row. IsMoment (row.hour.0 * 3600)) tallies.items
             → IsInStep (setup_of settings.now) segments.now settled p) }
     {
         let mut sums = counted;

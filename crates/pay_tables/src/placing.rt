@@ -1,5 +1,6 @@
 // Room for what is to be put.
-ghost use Rattle.std.specs.Prelude.{◌≡◌, ◌*◌, ◌^◌, ◌<◌, OnOk};
+ghost use Rattle.std.specs.Prelude.{◌≡◌, ◌*◌, OnOk};
+ghost use Rattle.sat_base.specs.Moments.{IsMoment};
 ghost use Rattle.rows.specs.Rows.{Each};
 ghost use Rattle.tally_payout.specs.Ranks.{month_place, tally_rank, statement_rank};
 ghost use Rattle.month_pay.specs.Months.{month_at, month_of_hour};
@@ -16,7 +17,7 @@ use tally_payout::{Statement, Tally};
 
 // The month in which an hour begins.
 fn month_of_hour(hour: u64) -> Month
-    requires { hour * 3600 < 2 ^ 36 }
+    requires { IsMoment (hour * 3600) }
     ensures { result.0 ≡ month_of_hour hour }
 {
     month_at(Moment::of(hour * 3600))
@@ -36,7 +37,7 @@ impl PayTables {
 
     /// Makes room for a tally. Running out of memory leaves all rows, and all room that was there.
     pub fn place_tally(&mut self, tally: &Tally) -> Result<(), NoMemory>
-        requires { tally.now.hour.0 * 3600 < 2 ^ 36 }
+        requires { IsMoment (tally.now.hour.0 * 3600) }
         ensures rows { KeepsRows self.old self.new }
         ensures places { KeepsPlaces self.old self.new }
         ensures placed { OnOk result (IsTallyPlaceable self.old tally.now → IsTallyPlaced self.new tally.now) }
@@ -80,7 +81,7 @@ impl PayTables {
 
     /// Gives the room of a tally back, where it wasn't put.
     pub fn release_tally(&mut self, tally: &Tally)
-        requires { tally.now.hour.0 * 3600 < 2 ^ 36 }
+        requires { IsMoment (tally.now.hour.0 * 3600) }
         ensures rows { KeepsRows self.old self.new }
         ensures fewer { HasNoMoreSlots self.old self.new }
         ensures row { IsFreed tally_rank self.old.tallies self.new.tallies (tally_rank tally.now) }

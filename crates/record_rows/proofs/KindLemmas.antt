@@ -4,10 +4,11 @@ use Rattle.std.specs.Ordering.{nat_cmp}
 use Rattle.std.specs.Cmp.Lexicographic.{slice_cmp}
 use Rattle.sat_base.specs.declared.rows.Row.{Row}
 use Rattle.sat_base.specs.declared.kinds.TheConstants as kinds
-use Rattle.record_rows.specs.declared.records.Rec.{Rec}
-use Rattle.record_rows.specs.declared.records.Rec.TheVariants as rec
+use Rattle.record_kinds.specs.declared.rec.Rec.{Rec}
+use Rattle.record_kinds.specs.declared.rec.Rec.TheVariants as rec
 use Rattle.record_rows.specs.declared.kind.RowErr.TheVariants as no
-use Rattle.record_rows.specs.Spelling.{kind_of, id_of, body_of}
+use Rattle.record_kinds.specs.Kinds.{kind_of}
+use Rattle.record_rows.specs.Spelling.{id_of, body_of}
 use Rattle.record_rows.specs.Fits.{Fits}
 use Rattle.record_rows.specs.Reading.{HasId, HasNoBody, IsRead}
 use Rattle.record_rows.specs.Ranks.{rank_of}

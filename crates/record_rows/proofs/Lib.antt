@@ -1,4 +1,4 @@
 pub mod Joins
 pub mod KindLemmas
 pub mod SchemeLemmas
-pub mod UpgradeLemmas
+pub mod VersionLemmas

@@ -1,5 +1,6 @@
 -- What is within the bounds, those of the types included: the records that rows are read as.
 use Rattle.std.specs.Prelude.{ℕ, ◌<◌, ◌≤◌, List, All, length, IsSome}
+use Rattle.sat_base.specs.Moments.{IsMoment}
 use Rattle.sat_base.specs.Limits.{IsMonthWithin, AreCapsWithin, AreMarksWithin, IsAskedWithin, IsDoneWithin, IsKeptWithin, IsTariffWithin}
 use Rattle.sat_base.specs.declared.limits.TheConstants as limits
 use Rattle.sat_base.specs.declared.records.At.{At}
@@ -28,9 +29,9 @@ use Rattle.audit_core.specs.declared.plan.AuditPlan.{AuditPlan}
 use Rattle.audit_core.specs.declared.rechecking.RecheckPlan.{RecheckPlan}
 use Rattle.repair_core.specs.declared.plan.RepairPlan.{RepairPlan}
 use Rattle.repair_core.specs.declared.plan.ExitPlan.{ExitPlan}
-use Rattle.record_rows.specs.Numbers.{IsU8, IsU16, IsU32, IsU64, IsU128, IsMoment, IsHash}
-use Rattle.record_rows.specs.declared.records.Rec.{Rec}
-use Rattle.record_rows.specs.declared.records.Rec.TheVariants as rec
+use Rattle.record_rows.specs.Numbers.{IsU8, IsU16, IsU32, IsU64, IsU128, IsHash}
+use Rattle.record_kinds.specs.declared.rec.Rec.{Rec}
+use Rattle.record_kinds.specs.declared.rec.Rec.TheVariants as rec
 
 pub record AtFits (at : At) : Type 0 where
   pub index : IsU8 at.index

@@ -2,8 +2,9 @@
 use Rattle.std.specs.Prelude.{◌≡◌, ℕ, List, ◌++◌, length}
 use Rattle.std.specs.Ordering.{nat_cmp}
 use Rattle.std.specs.Cmp.Lexicographic.{slice_cmp}
-use Rattle.record_rows.specs.declared.records.Rec.{Rec}
-use Rattle.record_rows.specs.Spelling.{kind_of, id_of, body_of, row_of}
+use Rattle.record_kinds.specs.declared.rec.Rec.{Rec}
+use Rattle.record_kinds.specs.Kinds.{kind_of}
+use Rattle.record_rows.specs.Spelling.{id_of, body_of, row_of}
 use Rattle.record_rows.specs.Fits.{Fits}
 use Rattle.record_rows.specs.Ranks.{rank_of}
 pub mod Apart

@@ -9,3 +9,4 @@ pub mod Ranks
 pub mod Reading
 pub mod Laws
 pub mod Version1
+pub mod Versions

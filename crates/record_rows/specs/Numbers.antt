@@ -44,8 +44,5 @@ IsU64 n = n < 2 ^ 64
 abbrev pub IsU128 : ℕ → Type 0
 IsU128 n = n < 2 ^ 128
 
-abbrev pub IsMoment : ℕ → Type 0
-IsMoment n = n < 2 ^ 36
-
 abbrev pub IsHash : List ℕ → Type 0
 IsHash bytes = length bytes ≡ 32

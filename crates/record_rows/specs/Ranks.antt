@@ -6,8 +6,8 @@ use Rattle.node_registry.specs.Left.{left_rank}
 use Rattle.segment_core.specs.Record.{segment_rank}
 use Rattle.settlement.specs.Rows.{key}
 use Rattle.tally_payout.specs.Ranks.{tally_rank, statement_rank}
-use Rattle.record_rows.specs.declared.records.Rec.{Rec}
-use Rattle.record_rows.specs.declared.records.Rec.TheVariants as rec
+use Rattle.record_kinds.specs.declared.rec.Rec.{Rec}
+use Rattle.record_kinds.specs.declared.rec.Rec.TheVariants as rec
 
 -- 0 where a store has one record of the kind at most
 abbrev pub rank_of : Rec → ℕ

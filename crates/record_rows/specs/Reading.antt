@@ -2,11 +2,16 @@
 use Rattle.std.specs.Prelude.{◌≡◌, ◌≢◌, ℕ, ◌<◌, ◌≤◌, ◌⊎◌, Result, Ok, Err, IfOk}
 use Rattle.sat_base.specs.declared.kinds.TheConstants as kinds
 use Rattle.sat_base.specs.declared.rows.Row.{Row}
-use Rattle.record_rows.specs.declared.records.Rec.{Rec}
+use Rattle.record_kinds.specs.declared.rec.Rec.{Rec}
 use Rattle.record_rows.specs.declared.kind.RowErr.{RowErr}
 use Rattle.record_rows.specs.declared.kind.RowErr.TheVariants as no
-use Rattle.record_rows.specs.Spelling.{kind_of, id_of, body_of, row_of}
+use Rattle.record_kinds.specs.Kinds.{kind_of}
+use Rattle.record_rows.specs.Spelling.{id_of, body_of, row_of}
 use Rattle.record_rows.specs.Fits.{Fits}
+
+-- the row is that of a record within the bounds
+abbrev pub IsRowOf : Row → Rec → Type 0
+IsRowOf row rec = Fits rec × (row ≡ row_of rec)
 
 -- records have the kinds 1 to 16
 abbrev pub IsKind : ℕ → Type 0

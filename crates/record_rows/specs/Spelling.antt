@@ -6,31 +6,14 @@ use Rattle.sat_base.specs.declared.records.Key.TheVariants as keys
 use Rattle.sat_base.specs.declared.rows.Row.{Row}
 use Rattle.sat_base.specs.declared.rows.Change.{Change}
 use Rattle.sat_base.specs.declared.rows.Change.TheVariants.{Remove}
-use Rattle.record_rows.specs.declared.records.Rec.{Rec}
-use Rattle.record_rows.specs.declared.records.Rec.TheVariants as rec
+use Rattle.record_kinds.specs.Kinds.{kind_of}
+use Rattle.record_kinds.specs.declared.rec.Rec.{Rec}
+use Rattle.record_kinds.specs.declared.rec.Rec.TheVariants as rec
 use Rattle.record_rows.specs.Numbers.{be32, be64, ◌‖◌}
 use Rattle.record_rows.specs.Settings.{settings_body}
 use Rattle.record_rows.specs.Bodies.{marks_body, node_body, customer_body, segment_body, settled_body, tally_body, statement_body, containment_body, left_body, tariff_body}
 use Rattle.record_rows.specs.Plans.{audit_plan_body, recheck_plan_body, repair_plan_body, exit_plan_body}
 use Rattle.record_rows.specs.Requests.{kept_body}
-
-abbrev pub kind_of : Rec → ℕ
-kind_of (rec.Settings settings) = kinds.SETTINGS
-kind_of (rec.Marks marks) = kinds.MARKS
-kind_of (rec.Node node) = kinds.NODE
-kind_of (rec.Customer customer) = kinds.CUSTOMER
-kind_of (rec.Segment segment) = kinds.SEGMENT
-kind_of (rec.SettledRow row) = kinds.SETTLED_ROW
-kind_of (rec.Tally tally) = kinds.TALLY
-kind_of (rec.Statement statement) = kinds.STATEMENT
-kind_of (rec.AuditPlan plan) = kinds.AUDIT_PLAN
-kind_of (rec.RecheckPlan plan) = kinds.RECHECK_PLAN
-kind_of (rec.RepairPlan plan) = kinds.REPAIR_PLAN
-kind_of (rec.Containment containment) = kinds.CONTAINMENT
-kind_of (rec.Kept kept) = kinds.KEPT
-kind_of (rec.ExitPlan plan) = kinds.EXIT_PLAN
-kind_of (rec.Left left) = kinds.LEFT
-kind_of (rec.Tariff tariff) = kinds.TARIFF
 
 abbrev pub id_of : Rec → List ℕ
 id_of (rec.Settings settings) = []

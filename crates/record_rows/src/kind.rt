@@ -1,14 +1,15 @@
 // Kinds of records: what their ids and bodies are spelled from.
 ghost use Rattle.std.specs.Prelude.{◌≡◌, ◌≢◌, ◌++◌, ℕ, Ok, Err, IfOk};
 ghost use Rattle.record_rows.specs.declared.coded.Unread.{Unread};
-ghost use Rattle.record_rows.specs.declared.records.Rec.{Rec};
-ghost use Rattle.record_rows.specs.Spelling.{kind_of, id_of, body_of, row_of};
+ghost use Rattle.record_kinds.specs.declared.rec.Rec.{Rec};
+ghost use Rattle.record_kinds.specs.Kinds.{kind_of};
+ghost use Rattle.record_rows.specs.Spelling.{id_of, body_of, row_of};
 ghost use Rattle.record_rows.specs.Fits.{IsShort};
 ghost use Rattle.record_rows.specs.Reading.{IsRead};
 ghost use Rattle.record_rows.specs.Laws.{AreMade};
 
 use crate::coded::{Coded, Ordered, Unread};
-use crate::records::Rec;
+use record_kinds::Rec;
 use sat_base::{Items, NoMemory, Row};
 use std::alloc::Global;
 

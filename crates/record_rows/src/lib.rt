@@ -8,7 +8,8 @@
 //!   [`RowErr`] that holds: another kind, an id that no record of the kind has, or such a body. The id is looked at
 //!   before the body.
 //! - [`remove`] gives the change that removes the row of a key.
-//! - [`upgrade`] gives the settings and the tariff that settings of version 1 hold.
+//! - [`version_of`] gives the version of a store by its first row, and [`upgrade`] what becomes of a row of a version in the
+//!   latest: nothing, or its record, and another that it implies. A row that holds no record of the version is refused.
 //!
 //! A row is that of one record (`one_record_a_spelling`), no id or body of a kind is a front of another
 //! (`no_spelling_is_a_front`), and ids stand byte by byte in the order of ranks (`ids_stand_in_order`).
@@ -16,6 +17,12 @@
 //! What is spelled one behind the other is a nested pair, and a list is a count and its items; that bytes are read
 //! exactly where they begin so is proved once for each of the two. So a kind is the pairs of its id and its body, in
 //! `kinds`.
+//!
+//! A new field of a record, or any other change of what rows hold, makes a version of a store:
+//! 1. [`Version`] gets a variant, which is then `LATEST`; [`version_of`] tells it by the byte that settings begin with.
+//! 2. The kind as it was read goes beside the kind, into `kinds/KIND/versionN.rt`; its bytes into `specs/VersionN`.
+//! 3. [`upgrade`] gets an arm for the version that was the latest: what becomes of rows of this kind, and of settings.
+//! 4. `specs/Versions` gets the arms beside it: which record a row of that version holds, and which it implies.
 //!
 //! Not promised: that records agree with one another, which is for the rules of the tables.
 #![tactic(auto)]
@@ -39,20 +46,23 @@ mod times;
 // Records
 mod kind;
 mod kinds;
-mod records;
 
 // Rows
 mod laws;
 mod reading;
 mod upgrading;
+mod version;
 mod writers;
 mod writing;
 
 pub use kind::RowErr;
-pub use laws::{ids_stand_in_order, no_spelling_is_a_front, one_record_a_spelling};
+pub use laws::{
+    ids_stand_in_order, no_spelling_is_a_front, one_record_a_spelling, versions_are_told_apart,
+};
 pub use reading::read;
-pub use records::Rec;
+pub use record_kinds::Rec;
 pub use upgrading::{Upgraded, upgrade};
+pub use version::{Version, version_of};
 pub use writers::{
     write_audit_plan, write_containment, write_customer, write_exit_plan, write_kept, write_left,
     write_marks, write_node, write_recheck_plan, write_repair_plan, write_segment, write_settings,

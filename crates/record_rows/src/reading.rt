@@ -1,15 +1,15 @@
 // Rows as records.
 ghost use Rattle.std.specs.Prelude.{◌≡◌, ◌≢◌, ◌↔◌, ◌⊎◌, Ok, Err, IfOk};
 ghost use Rattle.record_rows.specs.declared.kind.RowErr.{RowErr};
-ghost use Rattle.record_rows.specs.declared.records.Rec.{Rec};
+ghost use Rattle.record_kinds.specs.declared.rec.Rec.{Rec};
 ghost use Rattle.record_rows.specs.Spelling.{row_of};
 ghost use Rattle.record_rows.specs.Fits.{Fits};
 ghost use Rattle.record_rows.specs.Reading.{IsKind, IsNoKind, HasId, HasNoId, HasNoBody};
 
 use crate::kind::{RowErr, read_row};
-use crate::records::Rec;
 use audit_core::{AuditPlan, RecheckPlan};
 use node_registry::{Left, Node};
+use record_kinds::Rec;
 use repair_core::{ExitPlan, RepairPlan};
 use sat_base::{Containment, Customer, Kept, Marks, Row, Settings, Tariff, kinds};
 use segment_core::Segment;

@@ -1,9 +1,10 @@
 // Moments, months and hours.
-ghost use Rattle.std.specs.Prelude.{◌≡◌, ◌≤◌, ◌<◌, ◌++◌, length};
+ghost use Rattle.std.specs.Prelude.{◌≡◌, ◌≤◌, ◌++◌, length};
 ghost use Rattle.std.proofs.Common.{rules};
+ghost use Rattle.sat_base.specs.Moments.{IsMoment};
 ghost use Rattle.sat_base.specs.declared.limits.TheConstants as limits;
 ghost use Rattle.sat_base.specs.Limits.{IsMonthWithin};
-ghost use Rattle.record_rows.specs.Numbers.{be32, be64, IsMoment};
+ghost use Rattle.record_rows.specs.Numbers.{be32, be64};
 ghost use Rattle.record_rows.specs.Laws.Ids.{moment_apart, month_apart, month_order, hour_apart, hour_order};
 
 use crate::coded::{Coded, Ordered, Spelled, Unread};

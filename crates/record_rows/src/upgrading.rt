@@ -1,78 +1,80 @@
-// Settings of version 1.
-ghost use Rattle.std.specs.Prelude.{◌≡◌, IfOk, IfSome, Some, refl};
+// Rows of an earlier version, as the records of the latest.
+ghost use Rattle.std.specs.Prelude.{◌≡◌, ◌≢◌, IfOk, IfErr, IfSome, Some};
 ghost use Rattle.sat_base.specs.declared.kinds.TheConstants as kinds;
-ghost use Rattle.sat_base.specs.declared.settings.Settings.{Settings};
-ghost use Rattle.sat_base.specs.declared.rates.Rates.{Rates};
-ghost use Rattle.sat_base.specs.Limits.{AreRatesWithin, IsTariffWithin};
-ghost use Rattle.record_rows.specs.Fits.{SettingsFit, IsVetting};
-ghost use Rattle.record_rows.specs.Version1.{IsUpgraded, old_row, old_settings_body, upgraded};
+ghost use Rattle.record_rows.specs.declared.kind.RowErr.{RowErr};
+ghost use Rattle.record_kinds.specs.declared.rec.Rec.TheVariants as rec;
+ghost use Rattle.record_rows.specs.declared.version.Version.TheVariants as versions;
+ghost use Rattle.record_rows.specs.Version1.{first_tariff};
+ghost use Rattle.record_rows.specs.Versions.{AreWithin, HoldsNone, IsCause, UpgradesTo};
 
-use crate::coded::Unread;
-use crate::kind::read_whole;
-use crate::kinds::settings::is_vetting;
-use crate::made::Made;
-use sat_base::{Caps, Month, NoMemory, Rates, Row, Scheme, Settings, Tariff, kinds};
+use crate::kind::RowErr;
+use crate::kinds::settings::version1::{Settings1, read_settings};
+use crate::reading::read;
+use crate::version::Version;
+use record_kinds::Rec;
+use sat_base::{Row, Tariff, kinds};
 use std::alloc::Global;
 
-/// What settings of version 1 are in version 2.
-#[derive(Clone, Copy)]
+/// What becomes of a row.
+#[derive(Drop)]
 pub struct Upgraded {
-    pub settings: Settings,
-    /// The rates, from the first month on.
-    pub tariff: Tariff,
+    /// The row's own record, which has its kind and its id.
+    pub rec: Rec,
+    /// The record that the row implies beside it, if there is one.
+    pub also: Option<Rec>,
 }
 
-// Version 1 has no byte for the version, and keeps the rates.
-type Fields = ([u8; 32], (Scheme, (u16, (u8, (Rates, (Caps, Month))))));
-
-impl Made for Upgraded {
-    type Fields = Fields;
-
-    ghost fields = { λ u. let s = u.settings in
-        (s.secret, (s.scheme, (s.vet, (s.fresh, (u.tariff.rates, (s.caps, s.first_month)))))) };
-
-    ghost bytes_of = { λ u. old_settings_body u.settings u.tariff.rates };
-
-    ghost allows = { λ u. IsVetting u.settings.vet u.settings.fresh
-        × (u.tariff.from ≡ u.settings.first_month) };
-
-    fn of(given: Fields) -> Option<Self> {
-        let (secret, (scheme, (vet, (fresh, (rates, (caps, first_month)))))) = given;
-        if !is_vetting(vet, fresh) {
-            return None;
-        }
-        let settings = Settings {
-            secret,
-            scheme,
-            vet,
-            fresh,
-            caps,
-            first_month,
-        };
-        let tariff = Tariff {
-            from: first_month,
-            rates,
-        };
-        Some(Upgraded { settings, tariff })
-    }
-
-    ghost spelled = { λ u. refl };
-}
-
-/// The settings and the tariff that a row of version 1 holds, or `None` where the row isn't one: of kind 1, with an
-/// empty id and a body of 101 bytes that is within the bounds.
-pub fn upgrade(alloc: Global, row: &Row) -> Result<Option<Upgraded>, NoMemory>
-    ensures found { IfOk result (λ up. IfSome up (IsUpgraded row.now)) }
-    ensures only { (settings : Settings) (rates : Rates) → SettingsFit settings → AreRatesWithin rates
-        → row.now ≡ old_row settings rates
-        → IfOk result (λ up. up ≡ Some (upgraded settings rates)) }
+/// What becomes of a row of a store of this version in the latest: `None` where it stays as it is.
+///
+/// # Errors
+/// The row holds no record of this version, by the first cause of [`RowErr`] that holds.
+pub fn upgrade(alloc: Global, version: Version, row: &Row) -> Result<Option<Upgraded>, RowErr>
+    ensures found { IfOk result (UpgradesTo version row.now) }
+    ensures within { IfOk result (λ up. IfSome up AreWithin) }
+    ensures none { IfErr result (λ why. why ≢ RowErr.NoMemory → HoldsNone version row.now) }
+    ensures cause { IfErr result (IsCause version row.now) }
 {
-    if row.kind != kinds::SETTINGS || !row.id.is_empty() {
-        return Ok(None);
+    match version {
+        Version::One => upgrade_one(alloc, row),
+        Version::Two => stay(alloc, row),
     }
-    match read_whole::<Fields>(alloc, row.body.as_slice()) {
-        Ok(fields) => Ok(Upgraded::of(fields)),
-        Err(Unread::Form) => Ok(None),
-        Err(Unread::NoMemory) => Err(NoMemory),
+}
+
+// Of version 1: settings had the rates beside them, and there were no tariffs.
+fn upgrade_one(alloc: Global, row: &Row) -> Result<Option<Upgraded>, RowErr>
+    ensures found { IfOk result (UpgradesTo versions.One row.now) }
+    ensures cause { IfErr result (IsCause versions.One row.now) }
+{
+    match row.kind {
+        kinds::SETTINGS => Ok(Some(upgrade_settings(read_settings(alloc, row)?))),
+        kinds::TARIFF => Err(RowErr::Kind),
+        _ => stay(alloc, row),
     }
+}
+
+// The rates as a tariff, from the first month on.
+fn upgrade_settings(old: Settings1) -> Upgraded
+    ensures { result ≡ record {
+      rec = rec.Settings old.settings;
+      also = Some (rec.Tariff (first_tariff old.settings old.rates));
+    } }
+{
+    let Settings1 { settings, rates } = old;
+    let tariff = Tariff {
+        from: settings.first_month,
+        rates,
+    };
+    Upgraded {
+        rec: Rec::Settings(settings),
+        also: Some(Rec::Tariff(tariff)),
+    }
+}
+
+// Of the latest version.
+fn stay(alloc: Global, row: &Row) -> Result<Option<Upgraded>, RowErr>
+    ensures found { IfOk result (UpgradesTo versions.Two row.now) }
+    ensures cause { IfErr result (IsCause versions.Two row.now) }
+{
+    let _ = read(alloc, row)?;
+    Ok(None)
 }

@@ -1,13 +1,13 @@
 // The writer of each kind.
 ghost use Rattle.std.specs.Prelude.{◌≡◌, IfOk};
-ghost use Rattle.record_rows.specs.declared.records.Rec.{Rec};
+ghost use Rattle.record_kinds.specs.declared.rec.Rec.{Rec};
 ghost use Rattle.record_rows.specs.Spelling.{row_of};
 ghost use Rattle.record_rows.specs.Fits.{IsShort};
 
 use crate::kind::write_row;
-use crate::records::Rec;
 use audit_core::{AuditPlan, RecheckPlan};
 use node_registry::{Left, Node};
+use record_kinds::Rec;
 use repair_core::{ExitPlan, RepairPlan};
 use sat_base::{Containment, Customer, Kept, Marks, NoMemory, Row, Settings, Tariff};
 use segment_core::Segment;

@@ -1,16 +1,16 @@
 // Records as rows.
 ghost use Rattle.std.specs.Prelude.{◌≡◌, ◌≤◌, length, IfOk};
-ghost use Rattle.record_rows.specs.declared.records.Rec.{Rec};
+ghost use Rattle.record_kinds.specs.declared.rec.Rec.{Rec};
 ghost use Rattle.record_rows.specs.Spelling.{row_of, removal};
 ghost use Rattle.record_rows.specs.Fits.{IsShort};
 
 use crate::coded::Spelled;
-use crate::records::Rec;
 use crate::writers::{
     write_audit_plan, write_containment, write_customer, write_exit_plan, write_kept, write_left,
     write_marks, write_node, write_recheck_plan, write_repair_plan, write_segment, write_settings,
     write_settled, write_statement, write_tally, write_tariff,
 };
+use record_kinds::Rec;
 use sat_base::{Change, Items, Key, NoMemory, Row, kinds};
 use std::alloc::Global;
 

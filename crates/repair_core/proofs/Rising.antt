@@ -10,7 +10,7 @@ use Rattle.bw_decode.specs.Altered.{indexes_of}
 use Rattle.bw_decode.specs.Near.{Rises}
 use Rattle.repair_core.specs.Indexes.{has_index, joined}
 
-rises_tail : (x : ℕ) (xs : List ℕ) → Rises (x ∷ xs) → Rises xs
+pub rises_tail : (x : ℕ) (xs : List ℕ) → Rises (x ∷ xs) → Rises xs
 rises_tail x xs rises i j before within = rises (suc i) (suc j) (omega arith) (omega arith)
 
 pub rises_head : (x : ℕ) (xs : List ℕ) → Rises (x ∷ xs) → All (λ y. x < y) xs

@@ -1,5 +1,6 @@
 -- The bounds of records, beside the rules that tie them to one another. What isn't bounded here is bounded by its type.
-use Rattle.std.specs.Prelude.{ℕ, ◌^◌, ◌<◌, ◌≤◌, length}
+use Rattle.std.specs.Prelude.{ℕ, ◌≤◌, length}
+use Rattle.sat_base.specs.Moments.{IsMoment}
 use Rattle.sat_base.specs.declared.limits.TheConstants as limits
 use Rattle.sat_base.specs.declared.settings.Caps.{Caps}
 use Rattle.sat_base.specs.declared.settings.Marks.{Marks}
@@ -24,7 +25,7 @@ pub record AreCapsWithin (caps : Caps) : Type 0 where
   pub statements : (1 ≤ caps.statements) × (caps.statements ≤ limits.STATEMENTS)
 
 pub record AreMarksWithin (marks : Marks) : Type 0 where
-  pub time : marks.time < 2 ^ 36
+  pub time : IsMoment marks.time
   pub month : IsMonthWithin marks.month.0
   pub hour : marks.hour.0 ≤ limits.LAST_HOUR
 

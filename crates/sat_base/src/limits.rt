@@ -48,5 +48,14 @@ pub const LAST_MONTH: u32 = 49_775;
 /// The greatest hour of a record.
 pub const LAST_HOUR: u64 = 1 << 36;
 
+/// No moment is as late as this, in Unix seconds: the year 4147.
+pub const MOMENTS: u64 = 1 << 36;
+
+/// The entries of a term.
+pub const TERM: u64 = 65_536;
+
+/// The rechecks without an answer that count as a failure.
+pub const TRIES: u8 = 3;
+
 /// Where the next number of a segment, a serial or a plan is this one, no more is drawn.
 pub const LAST_NUMBER: u64 = 1 << 63;

@@ -1,6 +1,7 @@
 -- What a call comes to, by what became of the rows of its step.
 use Rattle.std.proofs.Common.{◌≡◌, ℕ, ◌⊎◌, inl, inr, Bool, true, false, List, [], ◌∷◌, refl, sym, ap, subst, ◌∙◌, arith}
 use Rattle.std.specs.Prelude.{map, if◌then◌else◌, Option, Some, IfSome}
+use Rattle.sat_base.specs.Keeper.{KeeperView}
 use Rattle.sat_base.specs.Rows.{Rows, changed}
 use Rattle.sat_base.specs.declared.keeper.Committed.TheVariants as committed
 use Rattle.machine_calls.specs.declared.call.Call.{Call}
@@ -9,14 +10,15 @@ use Rattle.machine_calls.specs.declared.reply.Reply.TheVariants as replies
 use Rattle.machine_calls.specs.declared.change.RecChange.{RecChange}
 use Rattle.machine_calls.specs.Replies.{is_lost}
 use Rattle.machine_step.specs.Bounds.{Each}
-use Rattle.machine_step.specs.Tables.{Tables}
+use Rattle.machine_step.specs.Tables.{Tables, all_changed}
 use Rattle.machine_step.specs.Step.{step, after, IsWellFormed}
 use Rattle.machine_step.specs.Writable.{IsWritable}
 use Rattle.machine_step.proofs.Replies.{step_made}
 use Rattle.machine_history.specs.History.{Said, IsRight, taken}
 use Rattle.sat_book.specs.Book.{Moves}
 use Rattle.sat_book.specs.Changes.{row_change}
-use Rattle.sat_book.specs.Ids.{AreIds, HasId}
+use Rattle.sat_book.specs.Ids.{AreIds, HasId, HasIds, Table}
+use Rattle.sat_book.specs.Ids.Table.{nodes_table}
 use Rattle.machine_store.specs.declared.prepared.Prepared.{Prepared}
 use Rattle.machine_store.specs.Prepared.{Holds}
 use Rattle.sat_book.specs.declared.answering.Written.TheVariants as written
@@ -35,21 +37,13 @@ rows_step : (t : Tables) (call : Call) → AreIds t → Each HasId (step t call)
     → changed (map row_change (step t call).changes) (rows t) ≡ rows (after t call)
 rows_step t call ids each fit = sym (rows_all t (step t call).changes ids each fit)
 
+-- what a step says of stopping is no row's
+ids_behind : (t : Tables) (call : Call) → AreIds (all_changed t (step t call).changes) → (x : Table) → HasIds (after t call) x
+ids_behind t call ids nodes_table = ids.all nodes_table
+ids_behind t call ids x = ids.all x
+
 ids_step : (t : Tables) (call : Call) → AreIds t → Each HasId (step t call).changes → AreIds (after t call)
-ids_step t call ids each =
-    let i = ids_all t (step t call).changes ids each in
-    record {
-      nodes = i.nodes;
-      customers = i.customers;
-      segments = i.segments;
-      settled = i.settled;
-      tallies = i.tallies;
-      statements = i.statements;
-      containments = i.containments;
-      kept = i.kept;
-      left = i.left;
-      tariffs = i.tariffs;
-    }
+ids_step t call ids each = record { all = ids_behind t call (ids_all t (step t call).changes ids each) }
 
 none_has_id : (cs : List RecChange) → cs ≡ [] → Each HasId cs
 none_has_id [] e = tt
@@ -65,12 +59,12 @@ pub made_of : (pending : Option Call) (call : Call) (old t next : Tables) → pe
 made_of pending call old t next is same made =
     subst (λ (o : Option Call). IfSome o (λ c. next ≡ after old c)) is made ∙ ap (λ (x : Tables). after x call) same
 
-module _ {K : Type 0} (faults : K → ℕ) (is_clean is_open tells : K → Type 0) (rows_at : K → Rows) (leaves : K → Rows → Type 0) where
+module _ {K : Type 0} (about : K → KeeperView) where
   abbrev Move : Tables → Call → Reply → K → K → Type 0
-  Move = Moves is_clean is_open tells rows_at leaves
+  Move = Moves about
 
   abbrev Come : Tables → Call → Reply → Tables → K → K → Type 0
-  Come = Answers faults is_clean is_open tells rows_at leaves
+  Come = Answers about
 
   -- the keeper wasn't called
   moves_none : (t : Tables) (call : Call) (reply : Reply) (k : K) → (is_lost reply ≡ true) ⊎ ((step t call).changes ≡ []) → rows (taken t (said call reply)) ≡ rows t → Move t call reply k k
@@ -85,9 +79,9 @@ module _ {K : Type 0} (faults : K → ℕ) (is_clean is_open tells : K → Type 
 
   -- a commit that wasn't done
   moves_lost : (t : Tables) (call : Call) (reply : Reply) (old new : K) → AreIds t → Each IsWritable (step t call).changes → is_lost reply ≡ true
-      → (is_open new → tells old → rows_at new ≡ rows_at old)
-      → (is_clean new → is_clean old) → (is_open new → is_open old) → (is_open new → tells old → tells new)
-      → (is_clean new → (m : Rows) → leaves new m → leaves old m ⊎ (is_open old × (tells old → m ≡ changed (map row_change (step t call).changes) (rows_at old))))
+      → ((about new).is_open → (about old).tells → (about new).rows ≡ (about old).rows)
+      → ((about new).is_clean → (about old).is_clean) → ((about new).is_open → (about old).is_open) → ((about new).is_open → (about old).tells → (about new).tells)
+      → ((about new).is_clean → (m : Rows) → (about new).leaves m → (about old).leaves m ⊎ ((about old).is_open × ((about old).tells → m ≡ changed (map row_change (step t call).changes) (about old).rows)))
       → Each HasId (step t call).changes → Move t call reply old new
   moves_lost t call reply old new ids fit lost stays clean opened told crash each = record {
     clean = clean;
@@ -107,12 +101,12 @@ module _ {K : Type 0} (faults : K → ℕ) (is_clean is_open tells : K → Type 
       same : rows (taken t (said call reply)) ≡ rows t
       same = ap (λ (b : Bool). rows (if b then t else after t call)) lost
 
-      made : (m : Rows) → tells old → rows_at old ≡ rows t → (tells old → m ≡ changed (map row_change (step t call).changes) (rows_at old)) → m ≡ rows (after t call)
+      made : (m : Rows) → (about old).tells → (about old).rows ≡ rows t → ((about old).tells → m ≡ changed (map row_change (step t call).changes) (about old).rows) → m ≡ rows (after t call)
       made m tells_old is left = left tells_old ∙ ap (changed (map row_change (step t call).changes)) is ∙ rows_step t call ids each fit
 
   -- a commit that was done
   moves_done : (t : Tables) (call : Call) (reply : Reply) (old new : K) → AreIds t → Each IsWritable (step t call).changes → reply ≡ (step t call).reply
-      → ((k : K) (m : Rows) → is_open k → tells k → leaves k m → m ≡ rows_at k) → Wrote faults is_clean is_open tells rows_at leaves (step t call).changes committed.Done old new → Move t call reply old new
+      → ((k : K) (m : Rows) → (about k).is_open → (about k).tells → (about k).leaves m → m ≡ (about k).rows) → Wrote about (step t call).changes committed.Done old new → Move t call reply old new
   moves_done t call reply old new ids fit is no_other wrote = record {
     clean = wrote.commits.clean;
     opened = wrote.commits.opened;
@@ -149,7 +143,7 @@ module _ {K : Type 0} (faults : K → ℕ) (is_clean is_open tells : K → Type 
       moves = moves_none t call replies.NoMemory k (inl refl) refl;
     }
 
-    pub memory_wrote : (next : Tables) (old new : K) → next ≡ t → Wrote faults is_clean is_open tells rows_at leaves (step t call).changes committed.NoMemory old new → Come t call replies.NoMemory next old new
+    pub memory_wrote : (next : Tables) (old new : K) → next ≡ t → Wrote about (step t call).changes committed.NoMemory old new → Come t call replies.NoMemory next old new
     memory_wrote next old new stays wrote = record {
       right = lost_right replies.NoMemory refl;
       tables = stays;
@@ -161,8 +155,8 @@ module _ {K : Type 0} (faults : K → ℕ) (is_clean is_open tells : K → Type 
     }
 
     -- a fault
-    pub fault_wrote : (next : Tables) (old new : K) (before after : ℕ) → next ≡ t → before ≡ faults old → after ≡ faults new → ((step t call).changes ≡ [] → ⊥)
-        → Wrote faults is_clean is_open tells rows_at leaves (step t call).changes committed.Fault old new → Come t call (replies.StoreFault before after) next old new
+    pub fault_wrote : (next : Tables) (old new : K) (before after : ℕ) → next ≡ t → before ≡ (about old).faults → after ≡ (about new).faults → ((step t call).changes ≡ [] → ⊥)
+        → Wrote about (step t call).changes committed.Fault old new → Come t call (replies.StoreFault before after) next old new
     fault_wrote next old new before after stays is_before is_after changes wrote = record {
       right = lost_right (replies.StoreFault before after) refl;
       tables = stays;
@@ -176,7 +170,7 @@ module _ {K : Type 0} (faults : K → ℕ) (is_clean is_open tells : K → Type 
     -- nothing to write
     pub done_same : (reply : Reply) (next : Tables) (k : K) → reply ≡ (step t call).reply → next ≡ after t call → (step t call).changes ≡ [] → Come t call reply next k k
     done_same reply next k is made none =
-        let quiet = no_fault reply (faults k) (ap is_lost is ∙ step_made t call) in
+        let quiet = no_fault reply (about k).faults (ap is_lost is ∙ step_made t call) in
         record {
           right = answer_right reply is;
           tables = made ∙ sym (taken_is t call reply is);
@@ -188,10 +182,10 @@ module _ {K : Type 0} (faults : K → ℕ) (is_clean is_open tells : K → Type 
         }
 
     -- written
-    pub done_wrote : (reply : Reply) (next : Tables) (old new : K) → reply ≡ (step t call).reply → next ≡ after t call → ((k : K) (m : Rows) → is_open k → tells k → leaves k m → m ≡ rows_at k)
-        → Wrote faults is_clean is_open tells rows_at leaves (step t call).changes committed.Done old new → Come t call reply next old new
+    pub done_wrote : (reply : Reply) (next : Tables) (old new : K) → reply ≡ (step t call).reply → next ≡ after t call → ((k : K) (m : Rows) → (about k).is_open → (about k).tells → (about k).leaves m → m ≡ (about k).rows)
+        → Wrote about (step t call).changes committed.Done old new → Come t call reply next old new
     done_wrote reply next old new is made no_other wrote =
-        let quiet = no_fault reply (faults old) (ap is_lost is ∙ step_made t call) in
+        let quiet = no_fault reply (about old).faults (ap is_lost is ∙ step_made t call) in
         record {
           right = answer_right reply is;
           tables = made ∙ sym (taken_is t call reply is);
@@ -205,13 +199,13 @@ module _ {K : Type 0} (faults : K → ℕ) (is_clean is_open tells : K → Type 
     -- ---- by what became of a prepared step
 
     module _ (p : Prepared) (holds : Holds p (step t call)) where
-      of_step : (answer : committed.the_data) (old new : K) → Wrote faults is_clean is_open tells rows_at leaves p.changes.items answer old new
-          → Wrote faults is_clean is_open tells rows_at leaves (step t call).changes answer old new
-      of_step answer old new wrote = subst (λ (cs : List RecChange). Wrote faults is_clean is_open tells rows_at leaves cs answer old new) holds.changes wrote
+      of_step : (answer : committed.the_data) (old new : K) → Wrote about p.changes.items answer old new
+          → Wrote about (step t call).changes answer old new
+      of_step answer old new wrote = subst (λ (cs : List RecChange). Wrote about cs answer old new) holds.changes wrote
 
       pub done_of : (told kept : Reply) (next : Tables) (old new : K) → told ≡ p.reply → next ≡ after t call
-          → ((k : K) (m : Rows) → is_open k → tells k → leaves k m → m ≡ rows_at k)
-          → AreWritten faults is_clean is_open tells rows_at leaves p old new (written.Done kept) → Come t call told next old new
+          → ((k : K) (m : Rows) → (about k).is_open → (about k).tells → (about k).leaves m → m ≡ (about k).rows)
+          → AreWritten about p old new (written.Done kept) → Come t call told next old new
       done_of told kept next old new is made no_other are = elim are.1 [
         | inl none ↦ subst (λ (k : K). Come t call told next old k) (sym none.1)
             (done_same told next old (is ∙ holds.reply) made (sym holds.changes ∙ none.0))
@@ -219,13 +213,13 @@ module _ {K : Type 0} (faults : K → ℕ) (is_clean is_open tells : K → Type 
       ]
 
       pub fault_of : (told : Reply) (next : Tables) (old new : K) (before after : ℕ) → told ≡ replies.StoreFault before after → next ≡ t
-          → AreWritten faults is_clean is_open tells rows_at leaves p old new (written.Fault before after) → Come t call told next old new
+          → AreWritten about p old new (written.Fault before after) → Come t call told next old new
       fault_of told next old new before after is stays are =
           subst (λ (r : Reply). Come t call r next old new) (sym is)
           (fault_wrote next old new before after stays are.0 are.1 (λ none. are.2 (holds.changes ∙ none)) (of_step committed.Fault old new are.3))
 
       pub memory_of : (told : Reply) (next : Tables) (old new : K) → told ≡ replies.NoMemory → next ≡ t
-          → AreWritten faults is_clean is_open tells rows_at leaves p old new written.NoMemory → Come t call told next old new
+          → AreWritten about p old new written.NoMemory → Come t call told next old new
       memory_of told next old new is stays are = subst (λ (r : Reply). Come t call r next old new) (sym is) (elim are [
         | inl same ↦ subst (λ (k : K). Come t call replies.NoMemory next old k) (sym same) (memory_same next old stays)
         | inr wrote ↦ memory_wrote next old new stays (of_step committed.NoMemory old new wrote)

@@ -1,5 +1,6 @@
 -- What holds of a book after one call more.
 use Rattle.std.proofs.Common.{◌≡◌, ℕ, ◌≤◌, inl, inr, List, [], ◌∷◌, ◌++◌, length, sym, ap, subst, ◌∙◌, arith}
+use Rattle.sat_base.specs.Keeper.{KeeperView}
 use Rattle.sat_base.specs.Rows.{Rows}
 use Rattle.machine_calls.specs.declared.call.Call.{Call}
 use Rattle.machine_calls.specs.declared.reply.Reply.{Reply}
@@ -23,13 +24,13 @@ pub grown_by : (history grown : List E) (n pass : ℕ) (call : Call) (told kept 
 grown_by history grown n pass call told kept at same is =
     is ∙ ap (λ (m : ℕ). history ++ entry_of m pass call kept ∷ []) at ∙ ap (λ (r : Reply). history ++ entry_of (length history) pass call r ∷ []) same
 
-module _ {K : Type 0} (faults : K → ℕ) (is_clean is_open tells : K → Type 0) (rows_at : K → Rows) (leaves : K → Rows → Type 0) where
+module _ {K : Type 0} (about : K → KeeperView) where
   abbrev Go : K → K → K → Tables → List E → Type 0
-  Go = Keeps is_clean is_open tells rows_at leaves
+  Go = Keeps about
 
   -- the keeper goes with one entry more
   keeps-one : (first opened old new : K) (start : Tables) (history : List E) (e : E) → Go first opened old start history
-      → Moves is_clean is_open tells rows_at leaves (replayed start history) e.call e.reply old new → Go first opened new start (history ++ e ∷ [])
+      → Moves about (replayed start history) e.call e.reply old new → Go first opened new start (history ++ e ∷ [])
   keeps-one first opened old new start history e keeps moves = record {
     opened = λ o. keeps.opened (moves.opened o);
     clean = λ c. keeps.clean (moves.clean c);
@@ -43,7 +44,7 @@ module _ {K : Type 0} (faults : K → ℕ) (is_clean is_open tells : K → Type 
     ];
   }
     where
-      kept_now : is_open new → tells first → rows_at new ≡ rows (replayed start (history ++ e ∷ []))
+      kept_now : (about new).is_open → (about first).tells → (about new).rows ≡ rows (replayed start (history ++ e ∷ []))
       kept_now o told = moves.kept o (keeps.told (moves.opened o) told) (keeps.kept (moves.opened o) told) ∙ ap rows (sym (replayed-one start history e))
 
   -- a fault's first count is no less than the last one shown
@@ -56,29 +57,29 @@ module _ {K : Type 0} (faults : K → ℕ) (is_clean is_open tells : K → Type 
   shown_most less more most (replies.StoreFault before after) le grows last = last
   shown_most less more most _ le grows last = omega arith
 
-  pub book-one : (b c : BookView K) (e : E) → IsBook is_clean is_open tells rows_at leaves faults b
-      → Answers faults is_clean is_open tells rows_at leaves b.tables e.call e.reply c.tables b.keeper c.keeper → HasBytes e.call → e.place ≡ length b.history
-      → c.opening ≡ b.opening → c.first ≡ b.first → c.opened ≡ b.opened → c.history ≡ b.history ++ e ∷ [] → IsBook is_clean is_open tells rows_at leaves faults c
+  pub book-one : (b c : BookView K) (e : E) → IsBook about b
+      → Answers about b.tables e.call e.reply c.tables b.keeper c.keeper → HasBytes e.call → e.place ≡ length b.history
+      → c.opening ≡ b.opening → c.first ≡ b.first → c.opened ≡ b.opened → c.history ≡ b.history ++ e ∷ [] → IsBook about c
   book-one b c e book answers bytes place opening first opened history =
       let start = start_of b.opening in
       let fault : IsFault (replayed start b.history) (last_shown b.opening.faults b.history) e.call e.reply =
       subst (λ (t : Tables). IsFault t (last_shown b.opening.faults b.history) e.call e.reply) book.tables
-      (fault_later b.tables (last_shown b.opening.faults b.history) (faults b.keeper) e.call e.reply book.shown answers.fault) in
+      (fault_later b.tables (last_shown b.opening.faults b.history) (about b.keeper).faults e.call e.reply book.shown answers.fault) in
       let right : IsRight (replayed start b.history) (said_of e) = subst (λ (t : Tables). IsRight t (said_of e)) book.tables answers.right in
       let lawful : IsHistory start b.opening.faults (b.history ++ e ∷ []) = history-one start b.opening.faults b.history e book.lawful place right bytes fault in
       let tables : c.tables ≡ replayed start (b.history ++ e ∷ []) = answers.tables ∙ ap (λ (t : Tables). taken t (said_of e)) book.tables ∙ sym (replayed-one start b.history e) in
-      let moves : Moves is_clean is_open tells rows_at leaves (replayed start b.history) e.call e.reply b.keeper c.keeper =
-      subst (λ (t : Tables). Moves is_clean is_open tells rows_at leaves t e.call e.reply b.keeper c.keeper) book.tables answers.moves in
+      let moves : Moves about (replayed start b.history) e.call e.reply b.keeper c.keeper =
+      subst (λ (t : Tables). Moves about t e.call e.reply b.keeper c.keeper) book.tables answers.moves in
       let keeps : Go b.first b.opened c.keeper start (b.history ++ e ∷ []) = keeps-one b.first b.opened b.keeper c.keeper start b.history e book.keeps moves in
-      let last : last_shown b.opening.faults (b.history ++ e ∷ []) ≤ faults c.keeper =
-      rw (shown-one b.opening.faults b.history e) (shown_most (last_shown b.opening.faults b.history) (faults b.keeper) (faults c.keeper) e.reply book.shown answers.counted answers.last) in
+      let last : last_shown b.opening.faults (b.history ++ e ∷ []) ≤ (about c.keeper).faults =
+      rw (shown-one b.opening.faults b.history e) (shown_most (last_shown b.opening.faults b.history) (about b.keeper).faults (about c.keeper).faults e.reply book.shown answers.counted answers.last) in
       record {
         spelled = subst Spell (sym opening) book.spelled;
         lawful = subst (λ (o : Opening). IsHistory (start_of o) o.faults c.history) (sym opening) (subst (IsHistory start b.opening.faults) (sym history) lawful);
         tables = subst (λ (o : Opening). c.tables ≡ replayed (start_of o) c.history) (sym opening) (subst (λ (h : List E). c.tables ≡ replayed start h) (sym history) tables);
         ids = answers.ids;
-        counted = rw first (subst (λ (o : Opening). faults b.first ≤ o.faults) (sym opening) book.counted);
-        shown = subst (λ (o : Opening). last_shown o.faults c.history ≤ faults c.keeper) (sym opening) (subst (λ (h : List E). last_shown b.opening.faults h ≤ faults c.keeper) (sym history) last);
+        counted = rw first (subst (λ (o : Opening). (about b.first).faults ≤ o.faults) (sym opening) book.counted);
+        shown = subst (λ (o : Opening). last_shown o.faults c.history ≤ (about c.keeper).faults) (sym opening) (subst (λ (h : List E). last_shown b.opening.faults h ≤ (about c.keeper).faults) (sym history) last);
         keeps = subst (λ (o : Opening). Go c.first c.opened c.keeper (start_of o) c.history) (sym opening) (subst (λ (h : List E). Go c.first c.opened c.keeper start h) (sym history)
             (subst (λ (k : K). Go c.first k c.keeper start (b.history ++ e ∷ [])) (sym opened) (subst (λ (k : K). Go k b.opened c.keeper start (b.history ++ e ∷ [])) (sym first) keeps)));
       }

@@ -1,8 +1,6 @@
 -- Ids stay within what their types hold as records change.
-use Rattle.std.proofs.Common.{List, [], ◌∷◌, Option, Some}
-use Rattle.sat_base.specs.declared.kinds.TheConstants as kinds
+use Rattle.std.proofs.Common.{List, [], ◌∷◌}
 use Rattle.sat_base.specs.declared.records.Key.TheVariants as keys
-use Rattle.sat_base.specs.declared.settings.Marks.{Marks}
 use Rattle.sat_base.specs.Ranks.{containment_rank, customer_rank, kept_rank, tariff_rank}
 use Rattle.node_registry.specs.Registry.{node_rank}
 use Rattle.node_registry.specs.Left.{left_rank}
@@ -11,197 +9,33 @@ use Rattle.settlement.specs.Rows.{key}
 use Rattle.tally_payout.specs.Ranks.{tally_rank, statement_rank}
 use Rattle.machine_calls.specs.declared.change.RecChange.{RecChange}
 use Rattle.machine_calls.specs.declared.change.RecChange.TheVariants as changes
-use Rattle.audit_core.specs.declared.plan.AuditPlan.{AuditPlan}
-use Rattle.audit_core.specs.declared.rechecking.RecheckPlan.{RecheckPlan}
-use Rattle.repair_core.specs.declared.plan.RepairPlan.{RepairPlan}
-use Rattle.repair_core.specs.declared.plan.ExitPlan.{ExitPlan}
-use Rattle.machine_step.specs.Tables.{Setup, Tables, setup_of, closed, changed, all_changed}
+use Rattle.machine_step.specs.Tables.{Tables, changed, all_changed}
 use Rattle.machine_step.specs.Bounds.{Each}
 use Rattle.machine_step.proofs.RowLemmas.{each-with_row, each-without}
-use Rattle.sat_book.specs.Ids.{AreIds, HasId}
+use Rattle.sat_book.specs.Ids.{AreIds, HasId, HasIds, Table}
+use Rattle.sat_book.specs.Ids.Table.{nodes_table, customers_table, segments_table, settled_table, tallies_table, statements_table, containments_table, kept_table, left_table, tariffs_table}
 
 module _ (t : Tables) (ids : AreIds t) where
-  -- what has no number of its own leaves the ids
-  same_ids : (setup : Setup) (marks : Marks) (audit : Option AuditPlan) (recheck : Option RecheckPlan) (repair : Option RepairPlan) (exit : Option ExitPlan)
-      → AreIds (record t { setup = setup; marks = marks; audit = audit; recheck = recheck; repair = repair; exit = exit })
-  same_ids setup marks audit recheck repair exit = record {
-    nodes = ids.nodes;
-    customers = ids.customers;
-    segments = ids.segments;
-    settled = ids.settled;
-    tallies = ids.tallies;
-    statements = ids.statements;
-    containments = ids.containments;
-    kept = ids.kept;
-    left = ids.left;
-    tariffs = ids.tariffs;
-  }
+  -- a change that puts or removes a row leaves the ids of the other tables
+  ids_in : (change : RecChange) → HasId change → (x : Table) → HasIds (changed t change) x
+  ids_in (changes.Node one) id nodes_table = each-with_row node_rank _ t.nodes one (ids.all nodes_table) id
+  ids_in (changes.Customer one) id customers_table = each-with_row customer_rank _ t.customers one (ids.all customers_table) id
+  ids_in (changes.Segment one) id segments_table = each-with_row segment_rank _ t.segments one (ids.all segments_table) id
+  ids_in (changes.SettledRow one) id settled_table = each-with_row key _ t.settled one (ids.all settled_table) id
+  ids_in (changes.Tally one) id tallies_table = each-with_row tally_rank _ t.tallies one (ids.all tallies_table) id
+  ids_in (changes.Statement one) id statements_table = each-with_row statement_rank _ t.statements one (ids.all statements_table) id
+  ids_in (changes.Containment one) id containments_table = each-with_row containment_rank _ t.containments one (ids.all containments_table) id
+  ids_in (changes.Kept one) id kept_table = each-with_row kept_rank _ t.kept one (ids.all kept_table) id
+  ids_in (changes.Left one) id left_table = each-with_row left_rank _ t.left one (ids.all left_table) id
+  ids_in (changes.Tariff one) id tariffs_table = each-with_row tariff_rank _ t.tariffs one (ids.all tariffs_table) id
+  ids_in (changes.Remove (keys.Segment segment)) id segments_table = each-without segment_rank _ t.segments segment.0 (ids.all segments_table)
+  ids_in (changes.Remove (keys.Containment node)) id containments_table = each-without containment_rank _ t.containments node.0 (ids.all containments_table)
+  ids_in (changes.Remove (keys.Plan kind)) id nodes_table = ids.all nodes_table
+  ids_in _ id x = ids.all x
 
   -- and ids stay within what their types hold
   pub ids_put : (change : RecChange) → HasId change → AreIds (changed t change)
-  ids_put (changes.Node one) id =
-      record {
-        nodes = each-with_row node_rank _ t.nodes one ids.nodes id;
-        customers = ids.customers;
-        segments = ids.segments;
-        settled = ids.settled;
-        tallies = ids.tallies;
-        statements = ids.statements;
-        containments = ids.containments;
-        kept = ids.kept;
-        left = ids.left;
-        tariffs = ids.tariffs;
-      }
-  ids_put (changes.Customer one) id =
-      record {
-        nodes = ids.nodes;
-        customers = each-with_row customer_rank _ t.customers one ids.customers id;
-        segments = ids.segments;
-        settled = ids.settled;
-        tallies = ids.tallies;
-        statements = ids.statements;
-        containments = ids.containments;
-        kept = ids.kept;
-        left = ids.left;
-        tariffs = ids.tariffs;
-      }
-  ids_put (changes.Segment one) id =
-      record {
-        nodes = ids.nodes;
-        customers = ids.customers;
-        segments = each-with_row segment_rank _ t.segments one ids.segments id;
-        settled = ids.settled;
-        tallies = ids.tallies;
-        statements = ids.statements;
-        containments = ids.containments;
-        kept = ids.kept;
-        left = ids.left;
-        tariffs = ids.tariffs;
-      }
-  ids_put (changes.SettledRow one) id =
-      record {
-        nodes = ids.nodes;
-        customers = ids.customers;
-        segments = ids.segments;
-        settled = each-with_row key _ t.settled one ids.settled id;
-        tallies = ids.tallies;
-        statements = ids.statements;
-        containments = ids.containments;
-        kept = ids.kept;
-        left = ids.left;
-        tariffs = ids.tariffs;
-      }
-  ids_put (changes.Tally one) id =
-      record {
-        nodes = ids.nodes;
-        customers = ids.customers;
-        segments = ids.segments;
-        settled = ids.settled;
-        tallies = each-with_row tally_rank _ t.tallies one ids.tallies id;
-        statements = ids.statements;
-        containments = ids.containments;
-        kept = ids.kept;
-        left = ids.left;
-        tariffs = ids.tariffs;
-      }
-  ids_put (changes.Statement one) id =
-      record {
-        nodes = ids.nodes;
-        customers = ids.customers;
-        segments = ids.segments;
-        settled = ids.settled;
-        tallies = ids.tallies;
-        statements = each-with_row statement_rank _ t.statements one ids.statements id;
-        containments = ids.containments;
-        kept = ids.kept;
-        left = ids.left;
-        tariffs = ids.tariffs;
-      }
-  ids_put (changes.Containment one) id =
-      record {
-        nodes = ids.nodes;
-        customers = ids.customers;
-        segments = ids.segments;
-        settled = ids.settled;
-        tallies = ids.tallies;
-        statements = ids.statements;
-        containments = each-with_row containment_rank _ t.containments one ids.containments id;
-        kept = ids.kept;
-        left = ids.left;
-        tariffs = ids.tariffs;
-      }
-  ids_put (changes.Kept one) id =
-      record {
-        nodes = ids.nodes;
-        customers = ids.customers;
-        segments = ids.segments;
-        settled = ids.settled;
-        tallies = ids.tallies;
-        statements = ids.statements;
-        containments = ids.containments;
-        kept = each-with_row kept_rank _ t.kept one ids.kept id;
-        left = ids.left;
-        tariffs = ids.tariffs;
-      }
-  ids_put (changes.Left one) id =
-      record {
-        nodes = ids.nodes;
-        customers = ids.customers;
-        segments = ids.segments;
-        settled = ids.settled;
-        tallies = ids.tallies;
-        statements = ids.statements;
-        containments = ids.containments;
-        kept = ids.kept;
-        left = each-with_row left_rank _ t.left one ids.left id;
-        tariffs = ids.tariffs;
-      }
-  ids_put (changes.Tariff one) id =
-      record {
-        nodes = ids.nodes;
-        customers = ids.customers;
-        segments = ids.segments;
-        settled = ids.settled;
-        tallies = ids.tallies;
-        statements = ids.statements;
-        containments = ids.containments;
-        kept = ids.kept;
-        left = ids.left;
-        tariffs = each-with_row tariff_rank _ t.tariffs one ids.tariffs id;
-      }
-  ids_put (changes.Settings one) id = same_ids (setup_of one) t.marks t.audit t.recheck t.repair t.exit
-  ids_put (changes.Marks one) id = same_ids t.setup one t.audit t.recheck t.repair t.exit
-  ids_put (changes.AuditPlan one) id = same_ids t.setup t.marks (Some one) t.recheck t.repair t.exit
-  ids_put (changes.RecheckPlan one) id = same_ids t.setup t.marks t.audit (Some one) t.repair t.exit
-  ids_put (changes.RepairPlan one) id = same_ids t.setup t.marks t.audit t.recheck (Some one) t.exit
-  ids_put (changes.ExitPlan one) id = same_ids t.setup t.marks t.audit t.recheck t.repair (Some one)
-  ids_put (changes.Remove (keys.Segment segment)) id =
-      record {
-        nodes = ids.nodes;
-        customers = ids.customers;
-        segments = each-without segment_rank _ t.segments segment.0 ids.segments;
-        settled = ids.settled;
-        tallies = ids.tallies;
-        statements = ids.statements;
-        containments = ids.containments;
-        kept = ids.kept;
-        left = ids.left;
-        tariffs = ids.tariffs;
-      }
-  ids_put (changes.Remove (keys.Containment node)) id =
-      record {
-        nodes = ids.nodes;
-        customers = ids.customers;
-        segments = ids.segments;
-        settled = ids.settled;
-        tallies = ids.tallies;
-        statements = ids.statements;
-        containments = each-without containment_rank _ t.containments node.0 ids.containments;
-        kept = ids.kept;
-        left = ids.left;
-        tariffs = ids.tariffs;
-      }
-  ids_put (changes.Remove (keys.Plan kind)) id = same_ids t.setup t.marks (closed kinds.AUDIT_PLAN kind t.audit) (closed kinds.RECHECK_PLAN kind t.recheck) (closed kinds.REPAIR_PLAN kind t.repair) (closed kinds.EXIT_PLAN kind t.exit)
+  ids_put change id = record { all = ids_in change id }
 
 pub ids_all : (t : Tables) (cs : List RecChange) → AreIds t → Each HasId cs → AreIds (all_changed t cs)
 ids_all t [] ids each = ids

@@ -16,10 +16,11 @@ use Rattle.node_registry.specs.Left.{left_rank}
 use Rattle.segment_core.specs.Record.{segment_rank}
 use Rattle.settlement.specs.Rows.{key}
 use Rattle.tally_payout.specs.Ranks.{tally_rank, statement_rank}
-use Rattle.record_rows.specs.declared.records.Rec.{Rec}
-use Rattle.record_rows.specs.declared.records.Rec.TheVariants as records
+use Rattle.record_kinds.specs.declared.rec.Rec.{Rec}
+use Rattle.record_kinds.specs.declared.rec.Rec.TheVariants as records
 use Rattle.record_rows.specs.Numbers.{be32, be64}
-use Rattle.record_rows.specs.Spelling.{kind_of, row_of}
+use Rattle.record_kinds.specs.Kinds.{kind_of}
+use Rattle.record_rows.specs.Spelling.{row_of}
 use Rattle.rows.specs.Rows.{without}
 use Rattle.rows.specs.Slots.{with_row}
 use Rattle.machine_calls.specs.declared.change.RecChange.{RecChange}
@@ -30,6 +31,7 @@ use Rattle.machine_step.specs.Writable.{IsWritable, IsPlanKind}
 use Rattle.sat_book.specs.TableRows.{setup_row, rows_in, row_lists, row_list, rows}
 use Rattle.sat_book.specs.Changes.{row_change}
 use Rattle.sat_book.specs.Ids.{AreIds, HasId}
+use Rattle.sat_book.specs.Ids.Table.{nodes_table, customers_table, segments_table, settled_table, tallies_table, statements_table, containments_table, kept_table, left_table, tariffs_table}
 use Rattle.sat_book.proofs.ChangedIds.{ids_put}
 use Rattle.sat_book.proofs.FindLemmas.{ties, at_key, IsTold, entries_of, at_with_row, at_without, cond_same}
 use Rattle.sat_book.proofs.BlockLemmas.{Entries, Block, all_entries, all_apart, Puts, puts_among, puts_only, joined_entries}
@@ -144,34 +146,34 @@ module _ (t : Tables) (ids : AreIds t) where
       put_only kinds.MARKS records.Marks (λ _. refl) (λ _. 0) (take 1 (blocks t)) (drop 2 (blocks t)) refl refl t (changed t (changes.Marks one)) (t.marks ∷ []) one refl refl (refl, tt)
   rows_put (changes.Node one) id fit =
       put_one kinds.NODE records.Node (λ _. refl) node_rank (take 2 (blocks t)) (drop 3 (blocks t)) refl refl t (changed t (changes.Node one)) t.nodes one refl refl
-      (each_told _ _ t.nodes (λ first f. ids32 kinds.NODE first.id.0 one.id.0 f id) ids.nodes)
+      (each_told _ _ t.nodes (λ first f. ids32 kinds.NODE first.id.0 one.id.0 f id) (ids.all nodes_table))
   rows_put (changes.Customer one) id fit =
       put_one kinds.CUSTOMER records.Customer (λ _. refl) customer_rank (take 3 (blocks t)) (drop 4 (blocks t)) refl refl t (changed t (changes.Customer one)) t.customers one refl refl
-      (each_told _ _ t.customers (λ first f. ids32 kinds.CUSTOMER first.id.0 one.id.0 f id) ids.customers)
+      (each_told _ _ t.customers (λ first f. ids32 kinds.CUSTOMER first.id.0 one.id.0 f id) (ids.all customers_table))
   rows_put (changes.Segment one) id fit =
       put_one kinds.SEGMENT records.Segment (λ _. refl) segment_rank (take 4 (blocks t)) (drop 5 (blocks t)) refl refl t (changed t (changes.Segment one)) t.segments one refl refl
-      (each_told _ _ t.segments (λ first f. ids64 kinds.SEGMENT first.id.0 one.id.0 f id) ids.segments)
+      (each_told _ _ t.segments (λ first f. ids64 kinds.SEGMENT first.id.0 one.id.0 f id) (ids.all segments_table))
   rows_put (changes.SettledRow one) id fit =
       put_one kinds.SETTLED_ROW records.SettledRow (λ _. refl) key (take 5 (blocks t)) (drop 6 (blocks t)) refl refl t (changed t (changes.SettledRow one)) t.settled one refl refl
-      (each_told _ _ t.settled (λ first f. ids_of_rows kinds.SETTLED_ROW first one f.0 id.0 f.1 id.1) ids.settled)
+      (each_told _ _ t.settled (λ first f. ids_of_rows kinds.SETTLED_ROW first one f.0 id.0 f.1 id.1) (ids.all settled_table))
   rows_put (changes.Tally one) id fit =
       put_one kinds.TALLY records.Tally (λ _. refl) tally_rank (take 6 (blocks t)) (drop 7 (blocks t)) refl refl t (changed t (changes.Tally one)) t.tallies one refl refl
-      (each_told _ _ t.tallies (λ first f. ids_64_32 kinds.TALLY first.hour.0 one.hour.0 first.node.0 one.node.0 f.0 id.0 f.1 id.1) ids.tallies)
+      (each_told _ _ t.tallies (λ first f. ids_64_32 kinds.TALLY first.hour.0 one.hour.0 first.node.0 one.node.0 f.0 id.0 f.1 id.1) (ids.all tallies_table))
   rows_put (changes.Statement one) id fit =
       put_one kinds.STATEMENT records.Statement (λ _. refl) statement_rank (take 7 (blocks t)) (drop 8 (blocks t)) refl refl t (changed t (changes.Statement one)) t.statements one refl refl
-      (each_told _ _ t.statements (λ first f. ids_32_32 kinds.STATEMENT first.month.0 one.month.0 first.node.0 one.node.0 f.0 id.0 f.1 id.1) ids.statements)
+      (each_told _ _ t.statements (λ first f. ids_32_32 kinds.STATEMENT first.month.0 one.month.0 first.node.0 one.node.0 f.0 id.0 f.1 id.1) (ids.all statements_table))
   rows_put (changes.Containment one) id fit =
       put_one kinds.CONTAINMENT records.Containment (λ _. refl) containment_rank (take 11 (blocks t)) (drop 12 (blocks t)) refl refl t (changed t (changes.Containment one)) t.containments one refl refl
-      (each_told _ _ t.containments (λ first f. ids32 kinds.CONTAINMENT first.node.0 one.node.0 f id) ids.containments)
+      (each_told _ _ t.containments (λ first f. ids32 kinds.CONTAINMENT first.node.0 one.node.0 f id) (ids.all containments_table))
   rows_put (changes.Kept one) id fit =
       put_one kinds.KEPT records.Kept (λ _. refl) kept_rank (take 12 (blocks t)) (drop 13 (blocks t)) refl refl t (changed t (changes.Kept one)) t.kept one refl refl
-      (each_told _ _ t.kept (λ first f. ids32 kinds.KEPT first.caller.0 one.caller.0 f id) ids.kept)
+      (each_told _ _ t.kept (λ first f. ids32 kinds.KEPT first.caller.0 one.caller.0 f id) (ids.all kept_table))
   rows_put (changes.Left one) id fit =
       put_one kinds.LEFT records.Left (λ _. refl) left_rank (take 14 (blocks t)) (drop 15 (blocks t)) refl refl t (changed t (changes.Left one)) t.left one refl refl
-      (each_told _ _ t.left (λ first f. ids32 kinds.LEFT first.node.0 one.node.0 f id) ids.left)
+      (each_told _ _ t.left (λ first f. ids32 kinds.LEFT first.node.0 one.node.0 f id) (ids.all left_table))
   rows_put (changes.Tariff one) id fit =
       put_one kinds.TARIFF records.Tariff (λ _. refl) tariff_rank (take 15 (blocks t)) (drop 16 (blocks t)) refl refl t (changed t (changes.Tariff one)) t.tariffs one refl refl
-      (each_told _ _ t.tariffs (λ first f. ids32 kinds.TARIFF first.from.0 one.from.0 f id) ids.tariffs)
+      (each_told _ _ t.tariffs (λ first f. ids32 kinds.TARIFF first.from.0 one.from.0 f id) (ids.all tariffs_table))
   rows_put (changes.AuditPlan one) id fit =
       put_only kinds.AUDIT_PLAN records.AuditPlan (λ _. refl) (λ _. 0) (take 8 (blocks t)) (drop 9 (blocks t)) refl refl t (changed t (changes.AuditPlan one)) (option_to_list t.audit) one refl refl
       (each_plan kinds.AUDIT_PLAN (λ plan. row_of (records.AuditPlan plan)) (λ _. refl) t.audit)
@@ -186,10 +188,10 @@ module _ (t : Tables) (ids : AreIds t) where
       (each_plan kinds.EXIT_PLAN (λ plan. row_of (records.ExitPlan plan)) (λ _. refl) t.exit)
   rows_put (changes.Remove (keys.Segment segment)) id fit =
       remove_one kinds.SEGMENT records.Segment (λ _. refl) segment_rank (take 4 (blocks t)) (drop 5 (blocks t)) refl refl t (changed t (changes.Remove (keys.Segment segment))) t.segments (be64 segment.0) segment.0 refl refl
-      (each_told _ _ t.segments (λ first f. ids64 kinds.SEGMENT first.id.0 segment.0 f id) ids.segments)
+      (each_told _ _ t.segments (λ first f. ids64 kinds.SEGMENT first.id.0 segment.0 f id) (ids.all segments_table))
   rows_put (changes.Remove (keys.Containment node)) id fit =
       remove_one kinds.CONTAINMENT records.Containment (λ _. refl) containment_rank (take 11 (blocks t)) (drop 12 (blocks t)) refl refl t (changed t (changes.Remove (keys.Containment node))) t.containments (be32 node.0) node.0 refl refl
-      (each_told _ _ t.containments (λ first f. ids32 kinds.CONTAINMENT first.node.0 node.0 f id) ids.containments)
+      (each_told _ _ t.containments (λ first f. ids32 kinds.CONTAINMENT first.node.0 node.0 f id) (ids.all containments_table))
   rows_put (changes.Remove (keys.Plan kind)) id fit = plan_removed kind fit
     where
       plan_removed : (kind : ℕ) → IsPlanKind kind → rows (changed t (changes.Remove (keys.Plan kind))) ≡ change_of (Remove kind []) (rows t)

@@ -1,27 +1,14 @@
 -- Parts of rows in order are in order, and parts of records that fit do.
-use Rattle.std.proofs.Common.{◌≡◌, Bool, true, false, List, [], ◌∷◌, ◌++◌, refl, ap, subst}
-use Rattle.std.specs.Prelude.{map, T, ◌&&◌}
-use Rattle.std.specs.FinMap.Entries.{below_all}
+use Rattle.std.proofs.Common.{◌≡◌, List, [], ◌∷◌, ◌++◌, refl, ap, subst}
+use Rattle.std.specs.Prelude.{map}
 use Rattle.sat_base.specs.declared.rows.Row.{Row}
-use Rattle.sat_base.specs.Rows.{Key, AreInOrder, entry, key_cmp, key_of}
-use Rattle.record_rows.specs.declared.records.Rec.{Rec}
+use Rattle.sat_base.specs.Rows.{AreInOrder}
+use Rattle.sat_base.proofs.RowLists.{split, order_front}
+use Rattle.record_kinds.specs.declared.rec.Rec.{Rec}
 use Rattle.record_rows.specs.Fits.{Fits}
 use Rattle.record_rows.specs.Spelling.{row_of}
 use Rattle.machine_step.specs.Bounds.{Each}
 use Rattle.sat_book.specs.TableRows.{joined}
-use Rattle.sat_book.proofs.SortLemmas.{split}
-
-join : (a b : Bool) → T a → T b → T (a && b)
-join true b h i = i
-join false b h i = absurd h
-
-below_front : (k : Key) (xs ys : List Row) → T (below_all key_cmp k (map entry (xs ++ ys))) → T (below_all key_cmp k (map entry xs))
-below_front k [] ys h = tt
-below_front k (x ∷ xs) ys h = let parts = split _ _ h in join _ _ parts.0 (below_front k xs ys parts.1)
-
-order_front : (xs ys : List Row) → AreInOrder (xs ++ ys) → AreInOrder xs
-order_front [] ys h = tt
-order_front (x ∷ xs) ys h = let parts = split _ _ h in join _ _ (below_front (key_of x) xs ys parts.0) (order_front xs ys parts.1)
 
 order_back : (xs ys : List Row) → AreInOrder (xs ++ ys) → AreInOrder ys
 order_back [] ys h = h

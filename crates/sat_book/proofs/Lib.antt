@@ -8,7 +8,9 @@ pub mod CrashLemmas
 pub mod AnswerLemmas
 pub mod BookLemmas
 pub mod SortLemmas
-pub mod OldLemmas
+pub mod UpgradeLemmas
+pub mod Version1Lemmas
+pub mod BadRowLemmas
 pub mod FineParts
 pub mod PartLemmas
 pub mod OpeningLemmas

@@ -8,18 +8,23 @@ use Rattle.machine_step.specs.Closed.{StaysClosed}
 use Rattle.machine_step.specs.Tables.{Tables, ledger_of}
 use Rattle.machine_step.proofs.Paid.{statements_of}
 use Rattle.machine_history.specs.History.{Said, IsLegal, replay}
-use Rattle.machine_history.proofs.HistoryLemmas.{valid_law, closed_law}
+use Rattle.machine_history.proofs.HistoryLemmas.{valid_law, closed_law, legal-append}
 use Rattle.sat_book.specs.Legal.{E, said_of, replayed}
-use Rattle.sat_book.specs.Paid.{PaysByTariff, ClosedMonthsStay}
+use Rattle.sat_book.specs.Paid.{IsPaidByTariff, PaysByTariff, ClosedMonthsStay}
 
-pub pays_by_tariff : (start : Tables) (history : List E) → IsValid start → IsLegal start (map said_of history) → PaysByTariff (replayed start history)
-pays_by_tariff start history v legal =
+paid_now : (start : Tables) (history : List E) → IsValid start → IsLegal start (map said_of history) → IsPaidByTariff (replayed start history)
+paid_now start history v legal =
     let t = replayed start history in
     let hold = statements_of t (valid_law start (map said_of history) v legal) in
     record {
       whole = all_whole t.setup.caps.statements (ledger_of t) hold.rule;
       node = λ node. node_conserved t.setup.caps.statements (ledger_of t) node hold.rule hold.rising;
     }
+
+pub pays_by_tariff : (start : Tables) (history : List E) → IsValid start → IsLegal start (map said_of history) → PaysByTariff start history
+pays_by_tariff start history v legal before more is =
+    let said : map said_of history ≡ map said_of before ++ map said_of more = ap (λ (h : List E). map said_of h) (sym is) ∙ map-append said_of before more in
+    paid_now start before v (legal-append (map said_of before) (map said_of more) start (subst (IsLegal start) said legal)).0
 
 pub closed_months : (start : Tables) (history : List E) → IsValid start → IsLegal start (map said_of history) → ClosedMonthsStay start history
 closed_months start history v legal before more is =

@@ -20,27 +20,29 @@ use Rattle.sat_base.specs.declared.settings.Marks.{Marks}
 use Rattle.sat_base.specs.Rows.{AreInOrder, entry, key_cmp, key_of, rows_of}
 use Rattle.sat_base.proofs.KeyOrder.{keys_total, keys_exact}
 use Rattle.sat_base.specs.Ranks.{containment_rank, customer_rank, kept_rank, tariff_rank}
+use Rattle.sat_base.proofs.RowLists.{split}
 use Rattle.node_registry.specs.Left.{left_rank}
 use Rattle.segment_core.specs.Record.{segment_rank}
 use Rattle.settlement.specs.Rows.{key}
 use Rattle.tally_payout.specs.Ranks.{tally_rank, statement_rank}
 use Rattle.rows.specs.Rows.{AllAbove, IsRising}
-use Rattle.record_rows.specs.declared.records.Rec.{Rec}
-use Rattle.record_rows.specs.declared.records.Rec.TheVariants as records
+use Rattle.record_kinds.specs.declared.rec.Rec.{Rec}
+use Rattle.record_kinds.specs.declared.rec.Rec.TheVariants as records
 use Rattle.record_rows.specs.Fits.{Fits, PlacesFit, RepairPlanFits}
 use Rattle.record_rows.specs.Ranks.{rank_of}
-use Rattle.record_rows.specs.Spelling.{kind_of, id_of, row_of}
+use Rattle.record_kinds.specs.Kinds.{kind_of}
+use Rattle.record_rows.specs.Spelling.{id_of, row_of}
 use Rattle.machine_calls.specs.declared.parts.Parts0.{Parts0}
 use Rattle.machine_step.specs.Bounds.{Each, ArePlacesWithin, IsRepairWithin}
 use Rattle.machine_step.specs.Rules.{are_below}
 use Rattle.machine_step.specs.Health.{first_of}
 use Rattle.machine_step.specs.Tables.{Tables}
 use Rattle.machine_store.specs.Opening.{AreParts, AreTablesOf, AreTablesWith, tables_made}
-use Rattle.sat_book.specs.Ids.{AreIds}
-use Rattle.sat_book.specs.Opened.{AreRecordsOf, listed, rec_lists}
+use Rattle.sat_book.specs.Ids.{AreIds, HasIds, Table}
+use Rattle.sat_book.specs.Ids.Table.{nodes_table, customers_table, segments_table, settled_table, tallies_table, statements_table, containments_table, kept_table, left_table, tariffs_table}
+use Rattle.sat_book.specs.ByKind.{AreRecordsOf, listed, rec_lists}
 use Rattle.sat_book.specs.TableRows.{joined, row_list, rows, rows_in}
 use Rattle.sat_book.proofs.FineParts.{AreFine, fine_among, map_behind}
-use Rattle.sat_book.proofs.SortLemmas.{split}
 
 -- ---- the records of one kind
 
@@ -213,19 +215,17 @@ module _ (law : StandAsRanks) (all : List Row) (parts : Parts0) (are : AreRecord
     tariffs_within = mapped records.Tariff _ (λ one fits. fits) parts.tariffs.items fine_tariffs.fit;
   }
 
-  ids_made : (settings : Settings) (marks : Marks) → AreIds (tables_made settings marks parts)
-  ids_made settings marks = record {
-    nodes = mapped records.Node _ (λ one fits. fits.id) parts.nodes.items fine_nodes.fit;
-    customers = mapped records.Customer _ (λ one fits. fits.id) parts.customers.items fine_customers.fit;
-    segments = mapped records.Segment _ (λ one fits. fits.id) parts.segments.items fine_segments.fit;
-    settled = mapped records.SettledRow _ (λ one fits. (fits.serial, fits.node)) parts.settled.items fine_settled.fit;
-    tallies = mapped records.Tally _ (λ one fits. (omega (arith, fits.hour), fits.node)) parts.tallies.items fine_tallies.fit;
-    statements = mapped records.Statement _ (λ one fits. (omega (arith, fits.month.1), fits.node)) parts.statements.items fine_statements.fit;
-    containments = mapped records.Containment _ (λ one fits. fits.node) parts.containments.items fine_containments.fit;
-    kept = mapped records.Kept _ (λ one fits. fits.caller) parts.kept.items fine_kept.fit;
-    left = mapped records.Left _ (λ one fits. fits.node) parts.left.items fine_left.fit;
-    tariffs = mapped records.Tariff _ (λ one fits. omega (arith, fits.from.1)) parts.tariffs.items fine_tariffs.fit;
-  }
+  ids_made : (settings : Settings) (marks : Marks) (x : Table) → HasIds (tables_made settings marks parts) x
+  ids_made settings marks nodes_table = mapped records.Node _ (λ one fits. fits.id) parts.nodes.items fine_nodes.fit
+  ids_made settings marks customers_table = mapped records.Customer _ (λ one fits. fits.id) parts.customers.items fine_customers.fit
+  ids_made settings marks segments_table = mapped records.Segment _ (λ one fits. fits.id) parts.segments.items fine_segments.fit
+  ids_made settings marks settled_table = mapped records.SettledRow _ (λ one fits. (fits.serial, fits.node)) parts.settled.items fine_settled.fit
+  ids_made settings marks tallies_table = mapped records.Tally _ (λ one fits. (omega (arith, fits.hour), fits.node)) parts.tallies.items fine_tallies.fit
+  ids_made settings marks statements_table = mapped records.Statement _ (λ one fits. (omega (arith, fits.month.1), fits.node)) parts.statements.items fine_statements.fit
+  ids_made settings marks containments_table = mapped records.Containment _ (λ one fits. fits.node) parts.containments.items fine_containments.fit
+  ids_made settings marks kept_table = mapped records.Kept _ (λ one fits. fits.caller) parts.kept.items fine_kept.fit
+  ids_made settings marks left_table = mapped records.Left _ (λ one fits. fits.node) parts.left.items fine_left.fit
+  ids_made settings marks tariffs_table = mapped records.Tariff _ (λ one fits. omega (arith, fits.from.1)) parts.tariffs.items fine_tariffs.fit
 
   -- the rows of the tables are those of the records
   list_made : (settings : Settings) (marks : Marks) → parts.settings.items ≡ settings ∷ [] → parts.marks.items ≡ marks ∷ [] → row_list (tables_made settings marks parts) ≡ map row_of (listed parts)
@@ -275,7 +275,7 @@ made_of law all parts are order t made = go parts.settings.items refl parts.mark
         record {
           same = sorted_map all order ∙ ap (λ (l : List Row). maps.from_entries (map entry l)) (sym list) ∙ ap rows (sym made);
           running = ap (λ (x : Tables). x.stopped) made;
-          ids = subst AreIds (sym made) (ids_made law all parts are order settings marks);
+          ids = subst AreIds (sym made) (record { all = ids_made law all parts are order settings marks });
         }
       where
         none : {A : Type 0} (l : List A) → suc (length l) ≤ 1 → l ≡ []

@@ -1,6 +1,6 @@
 -- Records by kind, as one more is added behind those of its kind.
-use Rattle.std.proofs.Common.{◌≡◌, ℕ, suc, zero, ◌+◌, ◌<◌, ◌≤◌, Bool, true, false, List, [], ◌∷◌, ◌++◌, length, get_or, take, drop, Some, refl, sym, ap, subst, inl, inr, ◌∙◌, append_assoc, arith}
-use Rattle.std.specs.Prelude.{map, slice_get, T, ◌&&◌}
+use Rattle.std.proofs.Common.{◌≡◌, ℕ, suc, zero, ◌+◌, ◌<◌, ◌≤◌, List, [], ◌∷◌, ◌++◌, length, get_or, take, drop, Some, refl, sym, ap, subst, inl, inr, ◌∙◌, append_assoc, arith}
+use Rattle.std.specs.Prelude.{map, slice_get, T}
 use Rattle.std.specs.declared.cmp.Ordering.{Ordering}
 use Rattle.std.specs.declared.cmp.Ordering.TheVariants.{Greater}
 use Rattle.std.specs.Cmp.{nat_cmp_is}
@@ -8,18 +8,23 @@ use Rattle.std.specs.Ordering.{nat_cmp, ordering_then, is_lt}
 use Rattle.std.specs.Cmp.Lexicographic.{slice_cmp}
 use Rattle.std.proofs.lemmas.Bool.{cases_lt}
 use Rattle.std.proofs.lemmas.List.{append-nil}
-use Rattle.sat_base.specs.declared.kinds.TheConstants as kinds
 use Rattle.sat_base.specs.declared.rows.Row.{Row}
 use Rattle.sat_base.specs.Rows.{Key, AreInOrder, key_cmp, key_of}
-use Rattle.record_rows.specs.declared.records.Rec.{Rec}
+use Rattle.sat_base.proofs.RowLists.{split}
+use Rattle.record_kinds.specs.declared.rec.Rec.{Rec}
+use Rattle.record_rows.specs.declared.version.Version.{Version}
+use Rattle.record_rows.specs.declared.version.TheConstants.Version.{LATEST}
 use Rattle.record_rows.specs.Fits.{Fits}
-use Rattle.record_rows.specs.Spelling.{kind_of, row_of}
+use Rattle.record_rows.specs.Spelling.{row_of}
+use Rattle.record_rows.specs.Versions.{HoldsSome}
 use Rattle.machine_calls.specs.declared.parts.Parts0.{Parts0}
+use Rattle.machine_calls.specs.Parts.{HasNoRecord}
 use Rattle.machine_step.specs.Bounds.{Each}
 use Rattle.sat_book.specs.declared.opening.OpenErr.{OpenErr}
 use Rattle.sat_book.specs.declared.opening.OpenErr.TheVariants as errs
 use Rattle.sat_book.specs.TableRows.{joined}
-use Rattle.sat_book.specs.Opened.{rec_lists, listed, HasNoneBehind, StandBehind, AddsRow, AddsRecords, IsRecordFor, Refuses, NamesFirstIn}
+use Rattle.sat_book.specs.ByKind.{AreRecordsOf, HasNoneBehind, listed, rec_lists}
+use Rattle.sat_book.specs.Opened.{AddsRow, NamesFirstIn, Refuses, StandBehind}
 
 -- one behind the others
 pub map-one : {A B : Type 0} (f : A → B) (xs : List A) (x : A) → map f (xs ++ x ∷ []) ≡ map f xs ++ f x ∷ []
@@ -62,29 +67,48 @@ listed-one record_of before own grown one rec after is grown_is none =
     ∙ joined-one before (map record_of own) (record_of one) after none
     ∙ ap (λ (r : Rec). joined (before ++ map record_of own ∷ after) ++ r ∷ []) (sym is)
 
+-- ---- where there is no record yet
+
+none_listed : (parts : Parts0) → HasNoRecord parts → listed parts ≡ []
+none_listed parts none = rw (
+  none.settings,
+  none.marks,
+  none.nodes,
+  none.customers,
+  none.segments,
+  none.settled,
+  none.tallies,
+  none.statements,
+  none.audit_plans,
+  none.recheck_plans,
+  none.repair_plans,
+  none.containments,
+  none.kept,
+  none.exit_plans,
+  none.left,
+  none.tariffs,
+) refl
+
+pub none_behind : (parts : Parts0) (rows : List Row) → HasNoRecord parts → StandBehind parts rows
+none_behind parts [] none = tt
+none_behind parts (row ∷ rest) none = none_later (rec_lists parts) 0 row.kind (omega arith) (none_listed parts none)
+
 -- ---- one row more
 
 pub each-one : {R : Type 0} (P : R → Type 0) (rows : List R) (row : R) → Each P rows → P row → Each P (rows ++ row ∷ [])
 each-one P [] row each own = (own, tt)
 each-one P (first ∷ rest) row each own = (each.0, each-one P rest row each.1 own)
 
-pub adds-none : (takes : Bool) (parts : Parts0) → AddsRecords takes parts [] parts
-adds-none takes parts = record { recs = []; fit = tt; rows_are = refl; all = sym (append-nil (listed parts)); no_tariff = λ no. tt }
+pub none-yet : (parts : Parts0) → HasNoRecord parts → AreRecordsOf [] parts
+none-yet parts none =
+    let all = none_listed parts none in
+    record { fit = subst (Each Fits) (sym all) tt; rows_are = ap (map row_of) all }
 
-pub adds-one : (takes : Bool) (parts mid result : Parts0) (rows : List Row) (row : Row) → AddsRecords takes parts rows mid → AddsRow takes row mid result
-    → AddsRecords takes parts (rows ++ row ∷ []) result
-adds-one takes parts mid result rows row before own = record {
-  recs = before.recs ++ own.rec ∷ [];
-  fit = each-one Fits before.recs own.rec before.fit own.fits;
-  rows_are = map-one row_of before.recs own.rec ∙ ap (λ (l : List Row). l ++ row_of own.rec ∷ []) before.rows_are ∙ ap (λ (r : Row). rows ++ r ∷ []) (sym own.row_is);
-  all = own.all ∙ ap (λ (l : List Rec). l ++ own.rec ∷ []) before.all ∙ append_assoc (listed parts) before.recs (own.rec ∷ []);
-  no_tariff = λ no. each-one _ before.recs own.rec (before.no_tariff no) (own.no_tariff no);
+pub one-more : (mid result : Parts0) (rows : List Row) (row : Row) → AreRecordsOf rows mid → AddsRow row mid result → AreRecordsOf (rows ++ row ∷ []) result
+one-more mid result rows row before own = record {
+  fit = subst (Each Fits) (sym own.all) (each-one Fits (listed mid) own.rec before.fit own.is.0);
+  rows_are = ap (map row_of) own.all ∙ map-one row_of (listed mid) own.rec ∙ ap (λ (l : List Row). l ++ row_of own.rec ∷ []) before.rows_are ∙ ap (λ (r : Row). rows ++ r ∷ []) (sym own.is.1);
 }
-
--- the kinds of rows in order never fall
-pub split : (a b : Bool) → T (a && b) → T a × T b
-split true b h = (tt, h)
-split false b h = absurd h
 
 kind_below : (a b : Key) → T (is_lt (key_cmp a b)) → a.0 ≤ b.0
 kind_below a b low = elim (cases_lt b.0 a.0) [
@@ -119,31 +143,25 @@ at_place (y ∷ ys) zero x lt is = ap Some (sym is)
 at_place (y ∷ ys) (suc i) x lt is = at_place ys i x (omega arith) is
 
 -- the rows before a place are records
-fine_before : (takes : Bool) (recs : List Rec) (rows : List Row) (place : ℕ) → Each Fits recs → (takes ≡ false → Each (λ rec. kind_of rec ≡ kinds.TARIFF → ⊥) recs) → map row_of recs ≡ take place rows
-    → (i : ℕ) (other : Row) → i < place → slice_get rows i ≡ Some other → IsRecordFor takes other
-fine_before takes recs [] place fit never are i other lt at = cc
-fine_before takes recs (row ∷ rows) zero fit never are i other lt at = absurd (omega arith)
-fine_before takes [] (row ∷ rows) (suc place) fit never are i other lt at = cc
-fine_before takes (rec ∷ recs) (row ∷ rows) (suc place) fit never are zero other lt at =
+held_before : (recs : List Rec) (rows : List Row) (place : ℕ) → Each Fits recs → map row_of recs ≡ take place rows
+    → (i : ℕ) (other : Row) → i < place → slice_get rows i ≡ Some other → HoldsSome LATEST other
+held_before recs [] place fit are i other lt at = cc
+held_before recs (row ∷ rows) zero fit are i other lt at = absurd (omega arith)
+held_before [] (row ∷ rows) (suc place) fit are i other lt at = cc
+held_before (rec ∷ recs) (row ∷ rows) (suc place) fit are zero other lt at =
     let same : row ≡ other = cc in
     let first : row_of rec ≡ row = cc in
-    let is : other ≡ row_of rec = sym same ∙ sym first in
-    ((rec, fit.0, is), λ e kind. (never e).0 (ap (λ (r : Row). r.kind) (sym is) ∙ kind))
-fine_before takes (rec ∷ recs) (row ∷ rows) (suc place) fit never are (suc i) other lt at =
+    (rec, (fit.0, sym same ∙ sym first))
+held_before (rec ∷ recs) (row ∷ rows) (suc place) fit are (suc i) other lt at =
     let rest : map row_of recs ≡ take place rows = cc in
-    fine_before takes recs rows place fit.1 (λ e. (never e).1) rest i other (omega arith) at
+    held_before recs rows place fit.1 rest i other (omega arith) at
 
-pub names_first : (takes : Bool) (parts mid : Parts0) (rows : List Row) (place : ℕ) (row : Row) (err : OpenErr) → AddsRecords takes parts (take place rows) mid → slice_get rows place ≡ Some row
-    → Refuses takes row err → NamesFirstIn takes rows err
-names_first takes parts mid rows place row (errs.BadRow kind id) before at refused = record {
-  place = place;
-  row = row;
-  stands = at;
-  its_kind = refused.0;
-  its_id = refused.1;
-  bad = refused.2;
-  others = fine_before takes before.recs rows place before.fit before.no_tariff before.rows_are;
-}
-names_first takes parts mid rows place row errs.NoMemory before at refused = tt
-names_first takes parts mid rows place row errs.Fault before at refused = absurd refused
-names_first takes parts mid rows place row (errs.BadTables rule kind id) before at refused = absurd refused
+pub names_first : (version : Version) (rows : List Row) (place : ℕ) (row : Row) (err : OpenErr) → ((i : ℕ) (other : Row) → i < place → slice_get rows i ≡ Some other → HoldsSome version other)
+    → slice_get rows place ≡ Some row → Refuses version row err → NamesFirstIn version rows err
+names_first version rows place row (errs.BadRow kind id) before at refused = record { place = place; row = row; stands = at; its_kind = refused.0; its_id = refused.1; none = refused.2; others = before }
+names_first version rows place row errs.NoMemory before at refused = tt
+names_first version rows place row errs.Fault before at refused = absurd refused
+names_first version rows place row (errs.BadTables rule kind id) before at refused = absurd refused
+
+pub names_latest : (mid : Parts0) (rows : List Row) (place : ℕ) (row : Row) (err : OpenErr) → AreRecordsOf (take place rows) mid → slice_get rows place ≡ Some row → Refuses LATEST row err → NamesFirstIn LATEST rows err
+names_latest mid rows place row err before at refused = names_first LATEST rows place row err (held_before (listed mid) rows place before.fit before.rows_are) at refused

@@ -1,6 +1,7 @@
 -- What contracts see of a book, and what holds of every book.
 use Rattle.std.specs.Prelude.{◌≡◌, ◌⊎◌, ℕ, ◌≤◌, List, [], Option, IsSomeAnd, true, false}
 use Rattle.std.specs.Option.{option_map}
+use Rattle.sat_base.specs.Keeper.{KeeperView}
 use Rattle.sat_base.specs.Rows.{Rows, AreInOrder, rows_of}
 use Rattle.machine_calls.specs.declared.call.Call.{Call}
 use Rattle.machine_calls.specs.declared.reply.Reply.{Reply}
@@ -58,44 +59,43 @@ origin_of b = record { opening = b.opening; first = b.first; opened = b.opened }
 
 -- ---- over what keeps the rows
 
-module _ {K : Type 0} (is_clean is_open tells : K → Type 0) (rows_at : K → Rows) (leaves : K → Rows → Type 0) where
+module _ {K : Type 0} (about : K → KeeperView) where
   -- rows that may be left after a call: rows that might before, where no record changed; those of its step, where it was answered as lost;
   -- or the rows that the keeper has
   abbrev pub LeftBy : Tables → Call → Reply → K → K → Rows → Type 0
   LeftBy t call reply old new left =
-      (((is_lost reply ≡ true) ⊎ ((step t call).changes ≡ [])) × leaves old left)
-      ⊎ (((is_lost reply ≡ true) × (is_open old × (tells old → rows_at old ≡ rows t → left ≡ rows (after t call))))
-      ⊎ (is_open new × (tells new → left ≡ rows_at new)))
+      (((is_lost reply ≡ true) ⊎ ((step t call).changes ≡ [])) × (about old).leaves left)
+      ⊎ (((is_lost reply ≡ true) × ((about old).is_open × ((about old).tells → (about old).rows ≡ rows t → left ≡ rows (after t call))))
+      ⊎ ((about new).is_open × ((about new).tells → left ≡ (about new).rows)))
 
   -- what a call that was answered so does to the keeper
   pub record Moves (t : Tables) (call : Call) (reply : Reply) (old new : K) : Type 0 where
-    pub clean : is_clean new → is_clean old
-    pub opened : is_open new → is_open old
-    pub told : is_open new → tells old → tells new
-    pub kept : is_open new → tells old → rows_at old ≡ rows t → rows_at new ≡ rows (taken t (record { call = call; reply = reply }))
-    pub left : is_clean new → (m : Rows) → leaves new m → LeftBy t call reply old new m
-    pub one_step : is_clean new → (m : Rows) → leaves new m → leaves old m ⊎ (is_open old × (tells old → rows_at old ≡ rows t → m ≡ rows (after t call)))
+    pub clean : (about new).is_clean → (about old).is_clean
+    pub opened : (about new).is_open → (about old).is_open
+    pub told : (about new).is_open → (about old).tells → (about new).tells
+    pub kept : (about new).is_open → (about old).tells → (about old).rows ≡ rows t → (about new).rows ≡ rows (taken t (record { call = call; reply = reply }))
+    pub left : (about new).is_clean → (m : Rows) → (about new).leaves m → LeftBy t call reply old new m
+    pub one_step : (about new).is_clean → (m : Rows) → (about new).leaves m → (about old).leaves m ⊎ ((about old).is_open × ((about old).tells → (about old).rows ≡ rows t → m ≡ rows (after t call)))
 
   -- the keeper told what it keeps as it was handed in, and was open as the book was opened
   pub record Told (first opened : K) : Type 0 where
-    pub was_open : is_open opened
-    pub told : tells first
+    pub was_open : (about opened).is_open
+    pub told : (about first).tells
 
   -- the keeper goes with the tables that a history leaves
   pub record Keeps (first over keeper : K) (start : Tables) (history : List E) : Type 0 where
-    pub opened : is_open keeper → is_open first
-    pub clean : is_clean keeper → is_clean first
-    pub told : is_open keeper → tells first → tells keeper
-    pub kept : is_open keeper → tells first → rows_at keeper ≡ rows (replayed start history)
-    pub left : is_clean keeper → Told first over → (m : Rows) → leaves keeper m → MayBeLeft start history m
+    pub opened : (about keeper).is_open → (about first).is_open
+    pub clean : (about keeper).is_clean → (about first).is_clean
+    pub told : (about keeper).is_open → (about first).tells → (about keeper).tells
+    pub kept : (about keeper).is_open → (about first).tells → (about keeper).rows ≡ rows (replayed start history)
+    pub left : (about keeper).is_clean → Told first over → (m : Rows) → (about keeper).leaves m → MayBeLeft start history m
 
-  module _ (faults : K → ℕ) where
-    -- what holds of every book, between two calls
-    pub record IsBook (b : BookView K) : Type 0 where
-      pub spelled : Spell b.opening
-      pub lawful : IsHistory (start_of b.opening) b.opening.faults b.history
-      pub tables : b.tables ≡ replayed (start_of b.opening) b.history
-      pub ids : AreIds b.tables
-      pub counted : faults b.first ≤ b.opening.faults
-      pub shown : last_shown b.opening.faults b.history ≤ faults b.keeper
-      pub keeps : Keeps b.first b.opened b.keeper (start_of b.opening) b.history
+  -- what holds of every book, between two calls
+  pub record IsBook (b : BookView K) : Type 0 where
+    pub spelled : Spell b.opening
+    pub lawful : IsHistory (start_of b.opening) b.opening.faults b.history
+    pub tables : b.tables ≡ replayed (start_of b.opening) b.history
+    pub ids : AreIds b.tables
+    pub counted : (about b.first).faults ≤ b.opening.faults
+    pub shown : last_shown b.opening.faults b.history ≤ (about b.keeper).faults
+    pub keeps : Keeps b.first b.opened b.keeper (start_of b.opening) b.history

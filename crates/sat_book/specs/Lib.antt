@@ -6,5 +6,7 @@ pub mod Paid
 pub mod Crash
 pub mod Book
 pub mod Kept
+pub mod ByKind
 pub mod Opened
 pub mod Openings
+pub mod Version1

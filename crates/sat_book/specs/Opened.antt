@@ -1,60 +1,24 @@
--- Rows that a book is opened with, as records by kind; and which row is the first that is none.
-use Rattle.std.specs.Prelude.{◌≡◌, ◌⊎◌, ℕ, ◌<◌, Bool, false, List, [], ◌∷◌, ◌++◌, map, drop, slice_get, Some}
-use Rattle.sat_base.specs.declared.kinds.TheConstants as kinds
+-- Rows that a book is opened with, of whatever version: what becomes of them, and which is the first that holds no record.
+use Rattle.std.specs.Prelude.{◌≡◌, ◌≢◌, ◌⊎◌, ℕ, ◌<◌, List, [], ◌∷◌, ◌++◌, map, slice_get, Option, Some, None, option_to_list}
 use Rattle.sat_base.specs.declared.rows.Row.{Row}
 use Rattle.sat_base.specs.declared.rows.Change.{Change}
 use Rattle.sat_base.specs.declared.rows.Change.TheVariants.{Put}
-use Rattle.sat_base.specs.Rows.{AreInOrder, rows_of, changed}
-use Rattle.sat_base.specs.declared.rates.Tariff.{Tariff}
-use Rattle.sat_base.specs.declared.settings.Settings.{Settings}
-use Rattle.record_rows.specs.declared.records.Rec.{Rec}
-use Rattle.record_rows.specs.declared.records.Rec.TheVariants as records
-use Rattle.sat_base.specs.Limits.{AreRatesWithin}
-use Rattle.record_rows.specs.Fits.{Fits, SettingsFit}
-use Rattle.record_rows.specs.Version1.{old_row}
-use Rattle.record_rows.specs.Spelling.{kind_of, row_of}
-use Rattle.sat_book.specs.declared.opening.OpenErr.{OpenErr}
-use Rattle.sat_book.specs.declared.sorted.Sorted.{Sorted}
-use Rattle.sat_book.specs.declared.opening.OpenErr.TheVariants as errs
+use Rattle.sat_base.specs.Rows.{AreInOrder, AreThe, rows_of, changed}
+use Rattle.record_kinds.specs.declared.rec.Rec.{Rec}
+use Rattle.record_rows.specs.declared.upgrading.Upgraded.{Upgraded}
+use Rattle.record_rows.specs.declared.version.Version.{Version}
+use Rattle.record_rows.specs.declared.version.TheConstants.Version.{LATEST}
+use Rattle.record_rows.specs.Reading.{IsRowOf}
+use Rattle.record_rows.specs.Spelling.{row_of}
+use Rattle.record_rows.specs.Versions.{HoldsNone, HoldsSome, IsVersion, UpgradesTo}
+use Rattle.machine_calls.specs.declared.parts.Parts0.{Parts0}
 use Rattle.machine_store.specs.declared.opening.CoreErr.{CoreErr}
 use Rattle.machine_store.specs.declared.opening.CoreErr.TheVariants as found
-use Rattle.machine_calls.specs.declared.parts.Parts0.{Parts0}
-use Rattle.machine_step.specs.Bounds.{Each}
+use Rattle.sat_book.specs.declared.opening.OpenErr.{OpenErr}
+use Rattle.sat_book.specs.declared.opening.OpenErr.TheVariants as errs
+use Rattle.sat_book.specs.declared.sorted.Sorted.{Sorted}
+use Rattle.sat_book.specs.ByKind.{AreRecordsOf, HasNoneBehind, listed}
 use Rattle.sat_book.specs.TableRows.{joined}
-
--- the records of each kind, in the order of the kinds
-abbrev pub rec_lists : Parts0 → List (List Rec)
-rec_lists parts =
-    map records.Settings parts.settings.items
-    ∷ map records.Marks parts.marks.items
-    ∷ map records.Node parts.nodes.items
-    ∷ map records.Customer parts.customers.items
-    ∷ map records.Segment parts.segments.items
-    ∷ map records.SettledRow parts.settled.items
-    ∷ map records.Tally parts.tallies.items
-    ∷ map records.Statement parts.statements.items
-    ∷ map records.AuditPlan parts.audit_plans.items
-    ∷ map records.RecheckPlan parts.recheck_plans.items
-    ∷ map records.RepairPlan parts.repair_plans.items
-    ∷ map records.Containment parts.containments.items
-    ∷ map records.Kept parts.kept.items
-    ∷ map records.ExitPlan parts.exit_plans.items
-    ∷ map records.Left parts.left.items
-    ∷ map records.Tariff parts.tariffs.items
-    ∷ []
-
--- the records, one kind behind the other
-abbrev pub listed : Parts0 → List Rec
-listed parts = joined (rec_lists parts)
-
--- there is none of a later kind
-abbrev pub HasNoneBehind : ℕ → Parts0 → Type 0
-HasNoneBehind kind parts = joined (drop kind (rec_lists parts)) ≡ []
-
--- the records are those of the rows
-pub record AreRecordsOf (rows : List Row) (parts : Parts0) : Type 0 where
-  pub fit : Each Fits (listed parts)
-  pub rows_are : map row_of (listed parts) ≡ rows
 
 -- what was found of tables, as it is told
 abbrev pub told_of : CoreErr → OpenErr
@@ -63,32 +27,35 @@ told_of found.NoMemory = errs.NoMemory
 
 -- ---- rows of an earlier version
 
--- the rows begin with settings of version 1
-pub record AreOld (loaded : List Row) (settings : Settings) (tariff : Tariff) (rest : List Row) : Type 0 where
-  pub settings_fit : SettingsFit settings
-  pub rates_fit : AreRatesWithin tariff.rates
-  pub from : tariff.from ≡ settings.first_month
-  pub are : loaded ≡ old_row settings tariff.rates ∷ rest
+-- where a row becomes another, the row of its record is put, and that of the record that it implies
+abbrev pub puts : Option Upgraded → List Change
+puts None = []
+puts (Some up) = Put (row_of up.rec) ∷ map (λ rec. Put (row_of rec)) (option_to_list up.also)
 
--- what becomes of the rows: settings of version 2, the other rows, and the tariff
-abbrev pub upgraded : Settings → Tariff → List Row → List Row
-upgraded settings tariff rest = row_of (records.Settings settings) ∷ rest ++ row_of (records.Tariff tariff) ∷ []
+-- what becomes of each row
+abbrev pub EachUpgrades : Version → List Row → List (Option Upgraded) → Type 0
+EachUpgrades version [] [] = Unit {0}
+EachUpgrades version (row ∷ rows) (up ∷ ups) = UpgradesTo version row up × EachUpgrades version rows ups
+EachUpgrades version _ _ = ⊥
 
--- the changes that make them so
-abbrev pub upgrades : Settings → Tariff → List Change
-upgrades settings tariff = Put (row_of (records.Settings settings)) ∷ Put (row_of (records.Tariff tariff)) ∷ []
+-- the changes of all rows, one behind the other
+pub record AreChanges (version : Version) (rows : List Row) (changes : List Change) : Type 0 where
+  pub ups : List (Option Upgraded)
+  pub each : EachUpgrades version rows ups
+  pub are : changes ≡ joined (map puts ups)
 
 -- rows of an earlier version become these, by these changes
 pub record IsUpgraded (loaded : List Row) (changes : List Change) (rows : List Row) : Type 0 where
-  pub settings : Settings
-  pub tariff : Tariff
-  pub rest : List Row
-  pub old : AreOld loaded settings tariff rest
-  pub changes_are : changes ≡ upgrades settings tariff
-  pub rows_are : rows ≡ upgraded settings tariff rest
+  pub ordered : AreInOrder loaded
+  pub version : Version
+  pub is_of : IsVersion version (slice_get loaded 0)
+  pub is_earlier : version ≢ LATEST
+  pub changes_are : AreChanges version loaded changes
+  pub rows_are : AreThe (changed changes (rows_of loaded)) rows
 
--- other rows stay as they are
+-- those of the latest stay as they are
 pub record IsSame (loaded : List Row) (changes : List Change) (rows : List Row) : Type 0 where
+  pub is_of : IsVersion LATEST (slice_get loaded 0)
   pub none : changes ≡ []
   pub rows_are : rows ≡ loaded
 
@@ -102,56 +69,24 @@ pub record AreSorted (loaded : List Row) (sorted : Sorted) : Type 0 where
   pub ordered : AreInOrder sorted.rows
   pub made : rows_of sorted.rows ≡ changed sorted.changes.items (rows_of loaded)
 
--- ---- the first row that is no record
+-- ---- the first row that holds no record
 
--- a row is that of a record, or the settings of version 1, which stand first; and beside these it is no tariff
-abbrev pub IsRecord : Row → Type 0
-IsRecord row = (rec : Rec) × Fits rec × (row ≡ row_of rec)
-
-abbrev pub IsOldFirst : List Row → Type 0
-IsOldFirst loaded = (settings : Settings) × (tariff : Tariff) × (rest : List Row) × AreOld loaded settings tariff rest
-
-pub record IsTaken (loaded : List Row) (place : ℕ) (row : Row) : Type 0 where
-  pub is_record : IsRecord row ⊎ ((place ≡ 0) × IsOldFirst loaded)
-  pub no_tariff : IsOldFirst loaded → row.kind ≡ kinds.TARIFF → ⊥
-
--- the first row that isn't taken has this kind and this id
-pub record IsFirstBad (loaded : List Row) (kind : ℕ) (id : List ℕ) : Type 0 where
+-- the first row that holds no record of the version has this kind and this id
+pub record IsFirstIn (version : Version) (rows : List Row) (kind : ℕ) (id : List ℕ) : Type 0 where
   pub place : ℕ
   pub row : Row
-  pub stands : slice_get loaded place ≡ Some row
-  pub its_kind : row.kind ≡ kind
-  pub its_id : row.id ≡ id
-  pub bad : IsTaken loaded place row → ⊥
-  pub others : (i : ℕ) (other : Row) → i < place → slice_get loaded i ≡ Some other → IsTaken loaded i other
+  pub stands : slice_get rows place ≡ Some row
+  pub its_kind : kind ≡ row.kind
+  pub its_id : id ≡ row.id
+  pub none : HoldsNone version row
+  pub others : (i : ℕ) (other : Row) → i < place → slice_get rows i ≡ Some other → HoldsSome version other
 
--- ---- rows that are sorted
-
--- there is no record behind the kind of the first row
-abbrev pub StandBehind : Parts0 → List Row → Type 0
-StandBehind parts [] = Unit {0}
-StandBehind parts (row ∷ rest) = HasNoneBehind row.kind parts
-
--- where tariffs aren't taken, a tariff counts as no record
-abbrev pub IsRecordFor : Bool → Row → Type 0
-IsRecordFor takes row = IsRecord row × (takes ≡ false → row.kind ≡ kinds.TARIFF → ⊥)
-
--- the record of the row stands behind those of the parts, and none of a later kind
-pub record AddsRow (takes : Bool) (row : Row) (parts result : Parts0) : Type 0 where
-  pub rec : Rec
-  pub fits : Fits rec
-  pub row_is : row ≡ row_of rec
-  pub all : listed result ≡ listed parts ++ rec ∷ []
-  pub last : HasNoneBehind row.kind result
-  pub no_tariff : takes ≡ false → kind_of rec ≡ kinds.TARIFF → ⊥
-
--- the records of the rows stand behind those of the parts
-pub record AddsRecords (takes : Bool) (parts : Parts0) (rows : List Row) (result : Parts0) : Type 0 where
-  pub recs : List Rec
-  pub fit : Each Fits recs
-  pub rows_are : map row_of recs ≡ rows
-  pub all : listed result ≡ listed parts ++ recs
-  pub no_tariff : takes ≡ false → Each (λ rec. kind_of rec ≡ kinds.TARIFF → ⊥) recs
+-- and the version is that of the rows
+pub record IsFirstBad (loaded : List Row) (kind : ℕ) (id : List ℕ) : Type 0 where
+  pub ordered : AreInOrder loaded
+  pub version : Version
+  pub is_of : IsVersion version (slice_get loaded 0)
+  pub first : IsFirstIn version loaded kind id
 
 -- an error names this row, unless memory ran out
 abbrev pub Names : Row → OpenErr → Type 0
@@ -160,31 +95,42 @@ Names row errs.NoMemory = Unit {0}
 Names row errs.Fault = ⊥
 Names row (errs.BadTables rule kind id) = ⊥
 
--- and where it does, the row is no record
-abbrev pub Refuses : Bool → Row → OpenErr → Type 0
-Refuses takes row (errs.BadRow kind id) = (kind ≡ row.kind) × (id ≡ row.id) × (IsRecordFor takes row → ⊥)
-Refuses takes row errs.NoMemory = Unit {0}
-Refuses takes row errs.Fault = ⊥
-Refuses takes row (errs.BadTables rule kind id) = ⊥
+-- and where it does, the row holds no record of the version
+abbrev pub Refuses : Version → Row → OpenErr → Type 0
+Refuses version row (errs.BadRow kind id) = (kind ≡ row.kind) × (id ≡ row.id) × HoldsNone version row
+Refuses version row errs.NoMemory = Unit {0}
+Refuses version row errs.Fault = ⊥
+Refuses version row (errs.BadTables rule kind id) = ⊥
 
--- an error names the first row that is no record
-pub record IsFirstIn (takes : Bool) (rows : List Row) (kind : ℕ) (id : List ℕ) : Type 0 where
-  pub place : ℕ
-  pub row : Row
-  pub stands : slice_get rows place ≡ Some row
-  pub its_kind : kind ≡ row.kind
-  pub its_id : id ≡ row.id
-  pub bad : IsRecordFor takes row → ⊥
-  pub others : (i : ℕ) (other : Row) → i < place → slice_get rows i ≡ Some other → IsRecordFor takes other
-
-abbrev pub NamesFirstIn : Bool → List Row → OpenErr → Type 0
-NamesFirstIn takes rows (errs.BadRow kind id) = IsFirstIn takes rows kind id
-NamesFirstIn takes rows errs.NoMemory = Unit {0}
-NamesFirstIn takes rows errs.Fault = ⊥
-NamesFirstIn takes rows (errs.BadTables rule kind id) = ⊥
+-- an error names the first row that holds none
+abbrev pub NamesFirstIn : Version → List Row → OpenErr → Type 0
+NamesFirstIn version rows (errs.BadRow kind id) = IsFirstIn version rows kind id
+NamesFirstIn version rows errs.NoMemory = Unit {0}
+NamesFirstIn version rows errs.Fault = ⊥
+NamesFirstIn version rows (errs.BadTables rule kind id) = ⊥
 
 abbrev pub NamesFirst : List Row → OpenErr → Type 0
 NamesFirst loaded (errs.BadRow kind id) = IsFirstBad loaded kind id
 NamesFirst loaded errs.NoMemory = Unit {0}
 NamesFirst loaded errs.Fault = ⊥
 NamesFirst loaded (errs.BadTables rule kind id) = ⊥
+
+-- ---- rows of the latest version, one by one
+
+-- there is no record behind the kind of the first row
+abbrev pub StandBehind : Parts0 → List Row → Type 0
+StandBehind parts [] = Unit {0}
+StandBehind parts (row ∷ rest) = HasNoneBehind row.kind parts
+
+-- the record of the row stands behind those of the parts, and none of a later kind
+pub record AddsRow (row : Row) (parts result : Parts0) : Type 0 where
+  pub rec : Rec
+  pub is : IsRowOf row rec
+  pub all : listed result ≡ listed parts ++ rec ∷ []
+  pub last : HasNoneBehind row.kind result
+
+-- ---- rows of an earlier version, one by one
+
+-- the changes of the row stand behind others
+abbrev pub AddsChanges : Version → Row → List Change → List Change → Type 0
+AddsChanges version row old new = (up : Option Upgraded) × UpgradesTo version row up × (new ≡ old ++ puts up)

@@ -2,6 +2,7 @@
 use Rattle.std.specs.Prelude.{◌≡◌, ◌⊎◌, ℕ, ◌≤◌, false, List, [], Some, None, Result, Ok, Err}
 use Rattle.std.specs.Vec.{vec_capacity}
 use Rattle.sat_base.specs.Outside.{Rose}
+use Rattle.sat_base.specs.Keeper.{AreOf, Commits, KeeperView, Stays}
 use Rattle.sat_base.specs.Rows.{Rows, AreInOrder, AreThe, rows_of, changed}
 use Rattle.sat_base.specs.declared.rows.Row.{Row}
 use Rattle.sat_base.specs.declared.rows.Change.{Change}
@@ -13,8 +14,8 @@ use Rattle.sat_book.specs.Book.{BookView}
 use Rattle.sat_base.specs.declared.keeper.Committed.{Committed}
 use Rattle.sat_base.specs.declared.keeper.Committed.TheVariants as committed
 use Rattle.sat_book.specs.Ids.{AreIds}
-use Rattle.sat_book.specs.Kept.{Commits}
-use Rattle.sat_book.specs.Opened.{AreRecordsOf, Becomes, IsFirstBad, IsUpgraded}
+use Rattle.sat_book.specs.ByKind.{AreRecordsOf}
+use Rattle.sat_book.specs.Opened.{Becomes, IsFirstBad, IsUpgraded}
 use Rattle.sat_book.specs.TableRows.{rows}
 use Rattle.sat_book.specs.declared.opened.Ready.{Ready}
 use Rattle.sat_book.specs.declared.opening.OpenErr.{OpenErr}
@@ -49,76 +50,59 @@ IsNone loaded (errs.BadTables rule kind id) = BreaksRule loaded rule kind id
 IsNone loaded errs.NoMemory = Unit {0}
 IsNone loaded errs.Fault = ⊥
 
-module _ {K : Type 0} (faults : K → ℕ) (is_clean is_open tells : K → Type 0) (rows_at : K → Rows) (leaves : K → Rows → Type 0) where
-  -- no row of the keeper changed
-  pub record Stays (old new : K) : Type 0 where
-    pub clean : is_clean new → is_clean old
-    pub opened : is_open new → is_open old
-    pub told : is_open new → tells old → tells new
-    pub kept : is_open new → tells old → rows_at new ≡ rows_at old
-    pub counted : faults old ≤ faults new
+-- rows that a keeper's rows become
+pub record AreUpgraded (old : Rows) (m : Rows) : Type 0 where
+  pub loaded : List Row
+  pub changes : List Change
+  pub rows : List Row
+  pub are : AreThe old loaded
+  pub upgrades : IsUpgraded loaded changes rows
+  pub made : m ≡ rows_of rows
 
-  -- the rows that a keeper has, where it tells
-  abbrev pub AreOf : K → K → List Row → Type 0
-  AreOf old new loaded = is_open new → tells old → AreThe (rows_at old) loaded
+-- what becomes of opening, by what a commit answers
+abbrev pub said_of : Committed → Result (Unit {0}) OpenErr
+said_of committed.Done = Ok tt
+said_of committed.Fault = Err errs.Fault
+said_of committed.NoMemory = Err errs.NoMemory
 
-  pub record Loads (old new : K) (loaded : List Row) : Type 0 where
-    pub ordered : AreInOrder loaded
-    pub stays : Stays old new
-    pub are : AreOf old new loaded
-    pub crash : is_clean new → (m : Rows) → leaves new m → leaves old m
-
+module _ {K : Type 0} (about : K → KeeperView) where
   -- why a book isn't opened: the keeper's count rose, or no machine is made of its rows
   abbrev pub IsCause : K → K → OpenErr → Type 0
-  IsCause old new errs.Fault = Rose (faults old) (faults new)
+  IsCause old new errs.Fault = Rose (about old).faults (about new).faults
   IsCause old new errs.NoMemory = Unit {0}
-  IsCause old new why = (loaded : List Row) × AreOf old new loaded × IsNone loaded why
-
-  -- rows that a keeper's rows become
-  pub record AreUpgraded (old : Rows) (m : Rows) : Type 0 where
-    pub loaded : List Row
-    pub changes : List Change
-    pub rows : List Row
-    pub are : AreThe old loaded
-    pub upgrades : IsUpgraded loaded changes rows
-    pub made : m ≡ rows_of rows
+  IsCause old new why = (loaded : List Row) × AreOf (about old) (about new) loaded × IsNone loaded why
 
   -- a keeper is handed back with its rows as they were; a crash leaves them, or what becomes of them
   pub record Refuses (old new : K) (why : OpenErr) : Type 0 where
-    pub stays : Stays old new
+    pub stays : Stays (about old) (about new)
     pub cause : IsCause old new why
-    pub left : is_clean new → is_open old → tells old → (m : Rows) → leaves new m → (m ≡ rows_at old) ⊎ AreUpgraded (rows_at old) m
+    pub left : (about new).is_clean → (about old).is_open → (about old).tells → (m : Rows) → (about new).leaves m → (m ≡ (about old).rows) ⊎ AreUpgraded (about old).rows m
 
   -- the changes are committed, if there are any
-  abbrev pub said_of : Committed → Result (Unit {0}) OpenErr
-  said_of committed.Done = Ok tt
-  said_of committed.Fault = Err errs.Fault
-  said_of committed.NoMemory = Err errs.NoMemory
-
   abbrev pub Puts : List Change → K → K → Result (Unit {0}) OpenErr → Type 0
   Puts changes old new result =
       ((changes ≡ []) × (new ≡ old) × (result ≡ Ok tt))
-      ⊎ ((answer : Committed) × Commits faults is_clean is_open tells rows_at leaves changes answer old new × (result ≡ said_of answer))
+      ⊎ ((answer : Committed) × Commits changes answer (about old) (about new) × (result ≡ said_of answer))
 
   -- the keeper has the rows of the machine
   pub record IsTaken (old new : K) (term : ℕ) (ready : Ready) : Type 0 where
     pub loaded : List Row
     pub is_ready : IsReady loaded term ready
-    pub clean : is_clean new → is_clean old
-    pub opened : is_open new → is_open old
-    pub told : is_open new → tells old → tells new
-    pub kept : is_open new → tells old → rows_at new ≡ rows_of ready.rows
-    pub counted : faults old ≤ faults new
-    pub are : AreOf old new loaded
+    pub clean : (about new).is_clean → (about old).is_clean
+    pub opened : (about new).is_open → (about old).is_open
+    pub told : (about new).is_open → (about old).tells → (about new).tells
+    pub kept : (about new).is_open → (about old).tells → (about new).rows ≡ rows_of ready.rows
+    pub counted : (about old).faults ≤ (about new).faults
+    pub are : AreOf (about old) (about new) loaded
 
   -- a book with no entries yet, over the rows of the keeper that was handed in, or what became of them
   pub record Opens (handed : K) (term : ℕ) (b : BookView K) : Type 0 where
     pub loaded : List Row
     pub changes : List Change
     pub becomes : Becomes loaded changes b.opening.rows
-    pub are : AreOf handed b.keeper loaded
+    pub are : AreOf (about handed) (about b.keeper) loaded
     pub first : b.first ≡ handed
     pub opened : b.opened ≡ b.keeper
     pub none_yet : b.history ≡ []
-    pub count : b.opening.faults ≡ faults b.keeper
+    pub count : b.opening.faults ≡ (about b.keeper).faults
     pub room : term ≤ b.room

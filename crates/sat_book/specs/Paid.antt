@@ -11,10 +11,14 @@ use Rattle.machine_history.specs.History.{replay}
 use Rattle.sat_book.specs.Legal.{E, said_of}
 
 -- of each statement, what was paid and what was held back make its gross, which is what the month's settled orders and tallies earn at the month's rates. All that was paid and returned to a node, with the pot that its statements left, is what it earned
-pub record PaysByTariff (t : Tables) : Type 0 where
+pub record IsPaidByTariff (t : Tables) : Type 0 where
   pub whole : Each (IsWhole (ledger_of t)) t.statements
   pub node : (node : NodeId) → sum_by (λ s. s.paid) (of_node node t.statements) + sum_by (λ s. s.returned) (of_node node t.statements) + last_pot 0 (of_node node t.statements)
       ≡ sum_by (λ s. s.parts.gross) (of_node node t.statements)
+
+-- so it is at each moment of a history
+abbrev pub PaysByTariff : Tables → List E → Type 0
+PaysByTariff start history = (before more : List E) → before ++ more ≡ history → IsPaidByTariff (replay start (map said_of before))
 
 -- from any moment of a history on, the sums of the months that are closed then stay, and their statements
 abbrev pub ClosedMonthsStay : Tables → List E → Type 0

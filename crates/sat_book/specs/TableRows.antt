@@ -4,8 +4,8 @@ use Rattle.std.specs.FinMap.{from_entries}
 use Rattle.sat_base.specs.declared.kinds.TheConstants as kinds
 use Rattle.sat_base.specs.declared.rows.Row.{Row}
 use Rattle.sat_base.specs.Rows.{Rows, entry}
-use Rattle.record_rows.specs.declared.records.Rec.{Rec}
-use Rattle.record_rows.specs.declared.records.Rec.TheVariants as records
+use Rattle.record_kinds.specs.declared.rec.Rec.{Rec}
+use Rattle.record_kinds.specs.declared.rec.Rec.TheVariants as records
 use Rattle.record_rows.specs.Settings.{settings_bytes}
 use Rattle.record_rows.specs.Spelling.{row_of}
 use Rattle.machine_step.specs.Tables.{Setup, Tables}

@@ -25,7 +25,7 @@ enum Written {
 // Copies the reply of a step, and writes the rows that it changes, if there are any.
 fn write<K: Keeper>(alloc: Global, keeper: &mut K, prepared: &Prepared) -> Written
     requires { Each IsWritable prepared.now.changes.items }
-    ensures written { AreWritten K.faults K.is_clean K.is_open K.tells K.rows K.leaves prepared.now keeper.old keeper.new result }
+    ensures written { AreWritten K.about prepared.now keeper.old keeper.new result }
     ensures quiet { prepared.now.changes.items ≡ [] → keeper.new ≡ keeper.old }
 {
     let Ok(reply) = prepared.reply.copy(alloc) else {
@@ -100,8 +100,7 @@ pub(crate) fn take_step<K: Keeper>(
     ensures same { result.kept ≡ result.told }
     ensures pending { core.new.pending ≡ None }
     ensures bytes { HasBytes call.now }
-    ensures answers { Answers K.faults K.is_clean K.is_open K.tells K.rows K.leaves
-        core.old.tables call.now result.told core.new.tables keeper.old keeper.new }
+    ensures answers { Answers K.about core.old.tables call.now result.told core.new.tables keeper.old keeper.new }
     ensures quiet { (step core.old.tables call.now).changes ≡ [] → keeper.new ≡ keeper.old }
 {
     read_bytes(call);

@@ -1,5 +1,6 @@
 // The machine over a keeper, with its history.
 ghost use Rattle.std.specs.Prelude.{◌≡◌, ◌≤◌, ◌<◌, ◌++◌, ◌∷◌, [], length, None, IfOk, IfErr, map};
+ghost use Rattle.sat_base.specs.declared.limits.TheConstants as limits;
 ghost use Rattle.turnstile.specs.Entry.{entry_of};
 ghost use Rattle.machine_step.specs.Step.{IsWellFormed, step};
 ghost use Rattle.machine_history.specs.Orders.{SettleOnce};
@@ -75,7 +76,7 @@ impl<K: Keeper> Model for Book<K> {
       room = vec_capacity b.history;
     } };
 
-    ghost invariant = { λ b. (b.core.pending ≡ None) × IsBook K.is_clean K.is_open K.tells K.rows K.leaves K.faults (record {
+    ghost invariant = { λ b. (b.core.pending ≡ None) × IsBook K.about (record {
       opening = b.opening;
       first = b.first.value;
       opened = b.opened.value;
@@ -88,18 +89,17 @@ impl<K: Keeper> Model for Book<K> {
 
 impl<K: Keeper> Book<K> {
     /// Opens a book over a keeper, with room for as many entries as the term says: 1 to 65536. It reads all rows, makes the
-    /// machine of them, and takes the room. Rows of version 1 of the store are then replaced by those of version 2, in one
-    /// commit.
+    /// machine of them, and takes the room. Rows of an earlier version of the store are then replaced by those of the latest,
+    /// in one commit.
     ///
-    /// Errors, with the keeper handed back: `Fault` where its count of faults rose; `BadRow` names the first row that is no
-    /// record, in the order of the keys (beside settings of version 1 a tariff counts as none); `BadTables` the least rule
-    /// that the tables break, and the first record that breaks it; `NoMemory` has no cause that a clause names. The keeper
-    /// then has the rows that it had. A crash leaves these, or those of version 2.
+    /// Errors, with the keeper handed back: `Fault` where its count of faults rose; `BadRow` names the first row that holds no
+    /// record of the store's version, in the order of the keys; `BadTables` the least rule that the tables break, and the
+    /// first record that breaks it; `NoMemory` has no cause that a clause names. The keeper then has the rows that it had. A
+    /// crash leaves these, or those of the latest version.
     pub fn open(alloc: Global, keeper: K, term: u64) -> Result<Book<K>, NotOpened<K>>
-        requires { (1 ≤ term) × (term ≤ 65536) }
-        ensures opened { IfOk result (Opens K.faults K.is_clean K.is_open K.tells K.rows K.leaves keeper term) }
-        ensures refused { IfErr result (λ no. Refuses K.faults K.is_clean K.is_open K.tells K.rows K.leaves
-            keeper no.keeper no.why) }
+        requires { (1 ≤ term) × (term ≤ limits.TERM) }
+        ensures opened { IfOk result (Opens K.about keeper term) }
+        ensures refused { IfErr result (λ no. Refuses K.about keeper no.keeper no.why) }
     {
         let mut keeper = keeper;
         let first = Snapshot::of(&keeper);
@@ -141,8 +141,7 @@ impl<K: Keeper> Book<K> {
         requires formed { IsWellFormed self.old.tables call }
         ensures entry { self.new.history ≡ self.old.history ++ entry_of (length self.old.history) pass call result.reply ∷ [] }
         ensures place { result.place ≡ length self.old.history }
-        ensures answers { Answers K.faults K.is_clean K.is_open K.tells K.rows K.leaves
-            self.old.tables call result.reply self.new.tables self.old.keeper self.new.keeper }
+        ensures answers { Answers K.about self.old.tables call result.reply self.new.tables self.old.keeper self.new.keeper }
         ensures quiet { (step self.old.tables call).changes ≡ [] → self.new.keeper ≡ self.old.keeper }
         ensures opening { self.new.opening ≡ self.old.opening }
         ensures first { self.new.first ≡ self.old.first }
@@ -151,8 +150,7 @@ impl<K: Keeper> Book<K> {
         ensures spell { Spell self.new.opening }
         ensures lawful { IsHistory (start_of self.new.opening) self.new.opening.faults self.new.history }
         ensures tables { self.new.tables ≡ replayed (start_of self.new.opening) self.new.history }
-        ensures keeps { Keeps K.is_clean K.is_open K.tells K.rows K.leaves
-            self.new.first self.new.opened self.new.keeper (start_of self.new.opening) self.new.history }
+        ensures keeps { Keeps K.about self.new.first self.new.opened self.new.keeper (start_of self.new.opening) self.new.history }
     {
         let place = self.history.len() as u64;
         let Answer { told, kept } = take_step(self.alloc, &mut self.keeper, &mut self.core, &call);
@@ -190,11 +188,10 @@ impl<K: Keeper> Book<K> {
         ensures spell { Spell self.opening }
         ensures lawful { IsHistory (start_of self.opening) self.opening.faults self.history }
         ensures once { SettleOnce (start_of self.opening) (map said_of self.history) }
-        ensures pays { PaysByTariff (replayed (start_of self.opening) self.history) }
+        ensures pays { PaysByTariff (start_of self.opening) self.history }
         ensures closed { ClosedMonthsStay (start_of self.opening) self.history }
-        ensures shown { last_shown self.opening.faults self.history ≤ K.faults result.0 }
-        ensures keeps { Keeps K.is_clean K.is_open K.tells K.rows K.leaves
-            self.first self.opened result.0 (start_of self.opening) self.history }
+        ensures shown { last_shown self.opening.faults self.history ≤ (K.about result.0).faults }
+        ensures keeps { Keeps K.about self.first self.opened result.0 (start_of self.opening) self.history }
     {
         let Book {
             alloc: _,

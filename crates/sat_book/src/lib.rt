@@ -2,7 +2,8 @@
 //! answered.
 //!
 //! - [`Book::open`] reads the keeper's rows and makes the machine of them. Otherwise it hands the keeper back and says
-//!   why ([`OpenErr`]). Rows of version 1 of a store are replaced by those of version 2.
+//!   why ([`OpenErr`]). Rows of an earlier version of a store are replaced by those of the latest; for version 1
+//!   [`for_version_1`] says what that is.
 //! - [`Book::apply`] takes one call: it works out the step, has the keeper commit the rows that change, and only then
 //!   takes the step and answers. Where nothing changes the keeper isn't called.
 //! - [`Book::core`] and [`Book::close`] show what has come of it. A book is also what a desk shares: it is a `Turn`.
@@ -16,6 +17,7 @@
 //! Not promised: that memory is found, nor that damage to a store that leaves sound tables is seen.
 #![tactic(auto)]
 
+mod adding;
 mod answering;
 mod book;
 mod changes;
@@ -25,8 +27,9 @@ mod opened;
 mod opening;
 mod sorted;
 mod sorting;
+mod upgrading;
 
 pub use book::{Answered, Book};
 pub use entry::Entry;
-pub use laws::rows_follow_changes;
+pub use laws::{for_version_1, rows_follow_changes};
 pub use opening::{NotOpened, OpenErr, Opening, Origin};

@@ -1,10 +1,12 @@
-// Opening: the rows are read, the machine made of them, room taken for the history, and only then rows of version 1
-// replaced.
+// Opening: the rows are read, the machine made of them, room taken for the history, and only then rows of an earlier
+// version replaced.
 ghost use Rattle.std.specs.Prelude.{◌≡◌, ◌≤◌, [], List, IfOk, IfErr};
 ghost use Rattle.std.specs.Vec.{vec_capacity};
+ghost use Rattle.sat_base.specs.declared.limits.TheConstants as limits;
 ghost use Rattle.sat_base.specs.declared.rows.Row.{Row};
+ghost use Rattle.sat_base.specs.Keeper.{Loads};
 ghost use Rattle.sat_book.specs.Opened.{AreSorted};
-ghost use Rattle.sat_book.specs.Openings.{IsNone, IsReady, IsTaken, Loads, Puts, Refuses};
+ghost use Rattle.sat_book.specs.Openings.{IsNone, IsReady, IsTaken, Puts, Refuses};
 
 use crate::entry::Entry;
 use crate::opening::OpenErr;
@@ -25,7 +27,7 @@ pub(crate) struct Ready {
 }
 
 fn make_room(alloc: Global, term: u64) -> Result<Vec<Entry>, NoMemory>
-    requires { term ≤ 65536 }
+    requires { term ≤ limits.TERM }
     ensures none { IfOk result (λ history. history.items ≡ []) }
     ensures room { IfOk result (λ history. term ≤ vec_capacity history) }
 {
@@ -35,7 +37,7 @@ fn make_room(alloc: Global, term: u64) -> Result<Vec<Entry>, NoMemory>
 // The machine of the records of rows.
 fn make(alloc: Global, sorted: Sorted, term: u64) -> Result<Ready, OpenErr>
     requires sorted { (loaded : List Row) × AreSorted loaded sorted }
-    requires term { term ≤ 65536 }
+    requires term { term ≤ limits.TERM }
     ensures ok { (loaded : List Row) → AreSorted loaded sorted → IfOk result (IsReady loaded term) }
     ensures bad { (loaded : List Row) → AreSorted loaded sorted → IfErr result (IsNone loaded) }
 {
@@ -59,8 +61,8 @@ fn make(alloc: Global, sorted: Sorted, term: u64) -> Result<Ready, OpenErr>
 
 // All rows of the keeper.
 fn load<K: Keeper>(alloc: Global, keeper: &mut K) -> Result<Items<Row>, OpenErr>
-    ensures ok { IfOk result (Loads K.faults K.is_clean K.is_open K.tells K.rows K.leaves keeper.old keeper.new) }
-    ensures bad { IfErr result (Refuses K.faults K.is_clean K.is_open K.tells K.rows K.leaves keeper.old keeper.new) }
+    ensures ok { IfOk result (Loads (K.about keeper.old) (K.about keeper.new)) }
+    ensures bad { IfErr result (Refuses K.about keeper.old keeper.new) }
 {
     match keeper.load(alloc) {
         Loaded::Rows(rows) => Ok(rows),
@@ -71,7 +73,7 @@ fn load<K: Keeper>(alloc: Global, keeper: &mut K) -> Result<Items<Row>, OpenErr>
 
 // Makes the changes, if there are any.
 fn put_all<K: Keeper>(alloc: Global, keeper: &mut K, changes: &[Change]) -> Result<(), OpenErr>
-    ensures { Puts K.faults K.is_clean K.is_open K.tells K.rows K.leaves changes.now keeper.old keeper.new result }
+    ensures { Puts K.about changes.now keeper.old keeper.new result }
 {
     if changes.is_empty() {
         return Ok(());
@@ -83,15 +85,15 @@ fn put_all<K: Keeper>(alloc: Global, keeper: &mut K, changes: &[Change]) -> Resu
     }
 }
 
-// Makes a machine of the keeper's rows. Rows of version 1 are replaced in the keeper, last of all.
+// Makes a machine of the keeper's rows. Rows of an earlier version are replaced in the keeper, last of all.
 pub(crate) fn make_ready<K: Keeper>(
     alloc: Global,
     keeper: &mut K,
     term: u64,
 ) -> Result<Ready, OpenErr>
-    requires { term ≤ 65536 }
-    ensures ok { IfOk result (IsTaken K.faults K.is_clean K.is_open K.tells K.rows K.leaves keeper.old keeper.new term) }
-    ensures bad { IfErr result (Refuses K.faults K.is_clean K.is_open K.tells K.rows K.leaves keeper.old keeper.new) }
+    requires { term ≤ limits.TERM }
+    ensures ok { IfOk result (IsTaken K.about keeper.old keeper.new term) }
+    ensures bad { IfErr result (Refuses K.about keeper.old keeper.new) }
 {
     let loaded = load(alloc, keeper)?;
     let sorted = records_of(alloc, loaded)?;

@@ -1,13 +1,15 @@
-// Rows as records by kind. Where the settings are of version 1, they and their rates first become what version 2 keeps.
-ghost use Rattle.std.specs.Prelude.{◌≡◌, ◌≤◌, ◌∷◌, ◌++◌, [], IfOk, IfErr, IfSome, None, drop, length};
+// Rows as records by kind. Those of an earlier version first become what the latest keeps.
+ghost use Rattle.std.specs.Prelude.{◌≢◌, IfOk, IfErr, slice_get};
 ghost use Rattle.sat_base.specs.Rows.{AreInOrder};
-ghost use Rattle.sat_book.specs.Opened.{AreOld, AreSorted, IsOldFirst, NamesFirst, upgrades};
+ghost use Rattle.record_rows.specs.Versions.{IsVersion};
+ghost use Rattle.sat_book.specs.Opened.{AreSorted, NamesFirst};
 
 use crate::opening::OpenErr;
-use crate::sorting::{add, sort_rows};
+use crate::sorting::sort_rows;
+use crate::upgrading::{changed_rows, changes_of};
 use machine_calls::Parts0;
-use record_rows::{Rec, Upgraded, upgrade, write_settings, write_tariff};
-use sat_base::{Change, Items, NoMemory, Row, Settings, Tariff};
+use record_rows::{Version, version_of, versions_are_told_apart};
+use sat_base::{Change, Items, Row};
 use std::alloc::Global;
 
 // The records of rows.
@@ -20,58 +22,37 @@ pub(crate) struct Sorted {
     pub changes: Vec<Change>,
 }
 
-// The changes that put settings and a tariff.
-fn puts(alloc: Global, settings: &Settings, tariff: &Tariff) -> Result<Vec<Change>, NoMemory>
-    ensures { IfOk result (λ changes. changes.items ≡ upgrades settings.now tariff.now) }
-{
-    let mut changes = Vec::with_capacity(alloc, 2)?;
-    changes.push(Change::Put(write_settings(alloc, settings)?))?;
-    changes.push(Change::Put(write_tariff(alloc, tariff)?))?;
-    Ok(changes)
-}
-
-// What becomes of settings of version 1, where the rows begin with them.
-fn old_settings(alloc: Global, rows: &[Row]) -> Result<Option<Upgraded>, NoMemory>
-    ensures old { IfOk result (λ found. IfSome found (λ two. AreOld rows.now two.settings two.tariff (drop 1 rows.now))) }
-    ensures none { IfOk result (λ found. found ≡ None → IsOldFirst rows.now → ⊥) }
-{
-    match rows.first() {
-        Some(first) => upgrade(alloc, first),
-        None => Ok(None),
-    }
-}
-
-// The rows with another first one, and one more behind them.
-fn replace_ends(rows: Items<Row>, first: Row, last: Row) -> Result<Items<Row>, NoMemory>
-    requires { 1 ≤ length rows }
-    ensures { IfOk result (λ all. all ≡ first ∷ drop 1 rows ++ last ∷ []) }
-{
-    let mut rows = rows.into_vec();
-    rows[0] = first;
-    rows.push(last)?;
-    Ok(Items::of(rows))
-}
-
-// The records of rows of version 1, whose settings become these.
-fn sort_old(alloc: Global, loaded: Items<Row>, two: Upgraded) -> Result<Sorted, OpenErr>
+// The records of rows of an earlier version.
+fn sort_earlier(alloc: Global, version: Version, loaded: Items<Row>) -> Result<Sorted, OpenErr>
     requires order { AreInOrder loaded }
-    requires old { AreOld loaded two.settings two.tariff (drop 1 loaded) }
+    requires version { IsVersion version (slice_get loaded 0) }
+    requires earlier { version ≢ Version.LATEST }
     ensures ok { IfOk result (AreSorted loaded) }
     ensures bad { IfErr result (NamesFirst loaded) }
 {
-    let Upgraded { settings, tariff } = two;
-    let changes = puts(alloc, &settings, &tariff)?;
-    let first = write_settings(alloc, &settings)?;
-    let last = write_tariff(alloc, &tariff)?;
-    let mut parts = Parts0::new(alloc);
-    add(&mut parts, Rec::Settings(settings))?;
-    sort_rows(alloc, &mut parts, &loaded.as_slice()[1..], false)?;
-    add(&mut parts, Rec::Tariff(tariff))?;
-    let rows = replace_ends(loaded, first, last)?;
+    versions_are_told_apart();
+    let changes = changes_of(alloc, version, loaded.as_slice())?;
+    let rows = changed_rows(alloc, loaded, &changes)?;
+    let parts = sort_rows(alloc, rows.as_slice())?;
     Ok(Sorted {
         parts,
         rows,
         changes,
+    })
+}
+
+// The records of rows of the latest version.
+fn sort_latest(alloc: Global, loaded: Items<Row>) -> Result<Sorted, OpenErr>
+    requires order { AreInOrder loaded }
+    requires version { IsVersion Version.LATEST (slice_get loaded 0) }
+    ensures ok { IfOk result (AreSorted loaded) }
+    ensures bad { IfErr result (NamesFirst loaded) }
+{
+    let parts = sort_rows(alloc, loaded.as_slice())?;
+    Ok(Sorted {
+        parts,
+        rows: loaded,
+        changes: Vec::new(alloc),
     })
 }
 
@@ -81,14 +62,10 @@ pub(crate) fn records_of(alloc: Global, loaded: Items<Row>) -> Result<Sorted, Op
     ensures ok { IfOk result (AreSorted loaded) }
     ensures bad { IfErr result (NamesFirst loaded) }
 {
-    if let Some(two) = old_settings(alloc, loaded.as_slice())? {
-        return sort_old(alloc, loaded, two);
+    let version = version_of(alloc, loaded.as_slice().first())?;
+    if version.is_latest() {
+        sort_latest(alloc, loaded)
+    } else {
+        sort_earlier(alloc, version, loaded)
     }
-    let mut parts = Parts0::new(alloc);
-    sort_rows(alloc, &mut parts, loaded.as_slice(), true)?;
-    Ok(Sorted {
-        parts,
-        rows: loaded,
-        changes: Vec::new(alloc),
-    })
 }

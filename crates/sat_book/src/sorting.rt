@@ -1,43 +1,18 @@
-// The records of rows, by kind.
-ghost use Rattle.std.specs.Prelude.{◌≡◌, ◌++◌, ◌∷◌, [], IfErr, OnOk};
+// The records of rows of the latest version, by kind.
+ghost use Rattle.std.specs.Prelude.{◌≡◌, IfErr, IfOk, OnOk};
 ghost use Rattle.sat_base.specs.Rows.{AreInOrder};
-ghost use Rattle.record_rows.specs.Spelling.{kind_of};
-ghost use Rattle.sat_book.specs.Opened.{AddsRecords, AddsRow, HasNoneBehind, Names, NamesFirstIn, Refuses, StandBehind, listed};
+ghost use Rattle.sat_book.specs.ByKind.{AreRecordsOf, HasNoneBehind};
+ghost use Rattle.sat_book.specs.Opened.{AddsRow, Names, NamesFirstIn, Refuses};
 
+use crate::adding::add;
 use crate::opening::OpenErr;
 use machine_calls::Parts0;
-use record_rows::{Rec, RowErr, read};
-use sat_base::{NoMemory, Row, kinds};
+use record_rows::{RowErr, Version, read};
+use sat_base::Row;
 use std::alloc::Global;
 
-// Adds a record behind those of its kind. There is none of a later kind.
-pub(crate) fn add(parts: &mut Parts0, rec: Rec) -> Result<(), NoMemory>
-    requires { HasNoneBehind (kind_of rec) parts.old }
-    ensures listed { OnOk result (listed parts.new ≡ listed parts.old ++ rec ∷ []) }
-    ensures last { OnOk result (HasNoneBehind (kind_of rec) parts.new) }
-{
-    match rec {
-        Rec::Settings(one) => Ok(parts.settings.push(one)?),
-        Rec::Marks(one) => Ok(parts.marks.push(one)?),
-        Rec::Node(one) => Ok(parts.nodes.push(one)?),
-        Rec::Customer(one) => Ok(parts.customers.push(one)?),
-        Rec::Segment(one) => Ok(parts.segments.push(one)?),
-        Rec::SettledRow(one) => Ok(parts.settled.push(one)?),
-        Rec::Tally(one) => Ok(parts.tallies.push(one)?),
-        Rec::Statement(one) => Ok(parts.statements.push(one)?),
-        Rec::AuditPlan(one) => Ok(parts.audit_plans.push(one)?),
-        Rec::RecheckPlan(one) => Ok(parts.recheck_plans.push(one)?),
-        Rec::RepairPlan(one) => Ok(parts.repair_plans.push(one)?),
-        Rec::Containment(one) => Ok(parts.containments.push(one)?),
-        Rec::Kept(one) => Ok(parts.kept.push(one)?),
-        Rec::ExitPlan(one) => Ok(parts.exit_plans.push(one)?),
-        Rec::Left(one) => Ok(parts.left.push(one)?),
-        Rec::Tariff(one) => Ok(parts.tariffs.push(one)?),
-    }
-}
-
-// A row that is no record is named.
-fn bad_row(alloc: Global, row: &Row) -> OpenErr
+// A row that holds no record is named.
+pub(crate) fn bad_row(alloc: Global, row: &Row) -> OpenErr
     ensures { Names row.now result }
 {
     match row.id.copy(alloc) {
@@ -46,20 +21,12 @@ fn bad_row(alloc: Global, row: &Row) -> OpenErr
     }
 }
 
-// Reads a row, and adds its record behind those of its kind. Where it is said so, a tariff isn't taken.
-fn read_into(
-    alloc: Global,
-    parts: &mut Parts0,
-    row: &Row,
-    takes_tariffs: bool,
-) -> Result<(), OpenErr>
+// Reads a row, and adds its record behind those of its kind.
+fn read_into(alloc: Global, parts: &mut Parts0, row: &Row) -> Result<(), OpenErr>
     requires { HasNoneBehind row.now.kind parts.old }
-    ensures ok { OnOk result (AddsRow takes_tariffs row.now parts.old parts.new) }
-    ensures bad { IfErr result (Refuses takes_tariffs row.now) }
+    ensures ok { OnOk result (AddsRow row.now parts.old parts.new) }
+    ensures bad { IfErr result (Refuses Version.LATEST row.now) }
 {
-    if !takes_tariffs && row.kind == kinds::TARIFF {
-        return Err(bad_row(alloc, row));
-    }
     match read(alloc, row) {
         Ok(rec) => Ok(add(parts, rec)?),
         Err(RowErr::NoMemory) => Err(OpenErr::NoMemory),
@@ -67,21 +34,15 @@ fn read_into(
     }
 }
 
-// Reads rows in the order of their keys, and adds their records behind those of other rows that stand before them. Where
-// it is said so, a tariff isn't taken.
-pub(crate) fn sort_rows(
-    alloc: Global,
-    parts: &mut Parts0,
-    rows: &[Row],
-    takes_tariffs: bool,
-) -> Result<(), OpenErr>
-    requires ordered { AreInOrder rows.now }
-    requires before { StandBehind parts.old rows.now }
-    ensures ok { OnOk result (AddsRecords takes_tariffs parts.old rows.now parts.new) }
-    ensures bad { IfErr result (NamesFirstIn takes_tariffs rows.now) }
+// Reads rows in the order of their keys.
+pub(crate) fn sort_rows(alloc: Global, rows: &[Row]) -> Result<Parts0, OpenErr>
+    requires { AreInOrder rows.now }
+    ensures ok { IfOk result (AreRecordsOf rows.now) }
+    ensures bad { IfErr result (NamesFirstIn Version.LATEST rows.now) }
 {
+    let mut parts = Parts0::new(alloc);
     for row in rows {
-        read_into(alloc, parts, row, takes_tariffs)?;
+        read_into(alloc, &mut parts, row)?;
     }
-    Ok(())
+    Ok(parts)
 }

@@ -1,5 +1,6 @@
 -- The form of a line of `settle`: NODE MOMENT HEX, with single spaces between.
 use Rattle.std.specs.Prelude.{ℕ, ◌-◌, ◌^◌, List, Option, Some, None, Result, Ok}
+use Rattle.sat_base.specs.declared.limits.TheConstants as limits
 use Rattle.hex.specs.Hex.{decode_of}
 use Rattle.hex.specs.declared.FromHexError.{FromHexError}
 use Rattle.sat_base.specs.declared.ids.NodeId.{NodeId}
@@ -22,7 +23,7 @@ abbrev pub node_of : List ℕ → Option ℕ
 node_of text = number_up_to (2 ^ 32 - 1) text
 
 abbrev pub moment_of : List ℕ → Option ℕ
-moment_of text = number_up_to (2 ^ 36 - 1) text
+moment_of text = number_up_to (limits.MOMENTS - 1) text
 
 abbrev pub with_moment : Option ℕ → Option (List ℕ × List ℕ) → Option Asked
 with_moment first None = None

@@ -10,12 +10,12 @@ use crate::lines::next_line;
 use crate::text::push_numbered;
 use hex::FromHexError;
 use order_limits::Keys;
-use sat_base::{Moment, NoMemory, NodeId, cut, number};
+use sat_base::{Moment, NoMemory, NodeId, cut, limits, number};
 use settlement::{SettleErr, Settled, Settling};
 use std::alloc::Global;
 
 // The last moment that a line can name.
-const LAST_MOMENT: u64 = (1 << 36) - 1;
+const LAST_MOMENT: u64 = limits::MOMENTS - 1;
 
 // What a line asks: that a node's order be settled at a moment.
 #[derive(Drop)]

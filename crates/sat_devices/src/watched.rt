@@ -42,17 +42,7 @@ impl<K: Drop> Watched<K> {
 }
 
 impl<K: Keeper> Keeper for Watched<K> {
-    ghost faults = { K.faults };
-
-    ghost is_clean = { K.is_clean };
-
-    ghost is_open = { K.is_open };
-
-    ghost tells = { K.tells };
-
-    ghost rows = { K.rows };
-
-    ghost leaves = { K.leaves };
+    ghost about = { K.about };
 
     ghost leaves_no_other = { K.leaves_no_other };
 

@@ -89,7 +89,7 @@ pub record Tells (opening : Opening) (history : List E) : Type 0 where
   pub spell : Spell opening
   pub lawful : IsHistory (start_of opening) opening.faults history
   pub once : SettleOnce (start_of opening) (map said_of history)
-  pub pays : PaysByTariff (replayed (start_of opening) history)
+  pub pays : PaysByTariff (start_of opening) history
   pub closed : ClosedMonthsStay (start_of opening) history
   pub shown : last_shown opening.faults history ≤ 0
 

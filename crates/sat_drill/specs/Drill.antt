@@ -94,6 +94,6 @@ pub record IsDrilled (opening : List Row) (history : List E) (wrong : ℕ) (text
   pub lawful : IsHistory start 0 history
   pub never : NeverFails history
   pub once : SettleOnce start (map said_of history)
-  pub pays : PaysByTariff (replayed start history)
+  pub pays : PaysByTariff start history
   pub closed : ClosedMonthsStay start history
   pub text_is : text ≡ drill_text start history wrong

@@ -1,5 +1,6 @@
 -- What holds of a drill's machine between two calls, what a call is answered, and what is left at the end.
 use Rattle.std.specs.Prelude.{◌≡◌, ℕ, ◌≤◌, List, map}
+use Rattle.sat_base.specs.declared.limits.TheConstants as limits
 use Rattle.sat_base.specs.KeeperMem.{Keeping}
 use Rattle.sat_base.specs.Rows.{AreInOrder, rows_of}
 use Rattle.sat_base.specs.declared.rows.Row.{Row}
@@ -22,7 +23,7 @@ pub record IsRun (book : BookView Keeping) (secret : List ℕ) (scheme : Scheme)
   pub own : IsStoreOf book.opening secret scheme
   pub lawful : IsHistory (start_of book.opening) book.opening.faults book.history
   pub tables : book.tables ≡ replayed (start_of book.opening) book.history
-  pub room : 65536 ≤ book.room
+  pub room : limits.TERM ≤ book.room
   pub wide : scheme.n ≤ points
 
 -- a call was answered by its step from valid tables of the store, or the step was lost
@@ -40,6 +41,6 @@ pub record IsClosed (opening : List Row) (history : List E) (sheet : List ℕ) :
   pub lawful : IsHistory start 0 history
   pub never : NeverFails history
   pub once : SettleOnce start (map said_of history)
-  pub pays : PaysByTariff (replayed start history)
+  pub pays : PaysByTariff start history
   pub closed : ClosedMonthsStay start history
   pub sheet_is : sheet ≡ sheet_of (replayed start history) start.setup.first_month

@@ -1,5 +1,6 @@
 // What the replies of a history come to.
 ghost use Rattle.std.specs.Prelude.{◌≡◌, ◌≤◌, length};
+ghost use Rattle.sat_base.specs.declared.limits.TheConstants as limits;
 ghost use Rattle.sat_drill.specs.Drill.{amount_of, blamed_of, blamed_sum, count_of, is_counted, settled_sum};
 
 use machine_calls::Reply;
@@ -63,7 +64,7 @@ fn blamed_of(reply: &Reply) -> u64
 /// The bytes of all orders that were settled.
 #[tactic(auto, unfolding(crate::specs::Drill::settled_sum))]
 pub(crate) fn settled_sum(history: &[Entry]) -> u128
-    requires { length history.now ≤ 65536 }
+    requires { length history.now ≤ limits.TERM }
     ensures { result ≡ settled_sum history.now }
 {
     let mut sum = 0u128;
@@ -76,7 +77,7 @@ pub(crate) fn settled_sum(history: &[Entry]) -> u128
 /// How many answers to audits were altered.
 #[tactic(auto, unfolding(crate::specs::Drill::blamed_sum))]
 pub(crate) fn blamed_sum(history: &[Entry]) -> u128
-    requires { length history.now ≤ 65536 }
+    requires { length history.now ≤ limits.TERM }
     ensures { result ≡ blamed_sum history.now }
 {
     let mut sum = 0u128;

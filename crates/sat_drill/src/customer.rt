@@ -1,5 +1,7 @@
 // What the customer does in its turns.
-ghost use Rattle.std.specs.Prelude.{◌≡◌, ◌+◌, ◌^◌, ◌<◌, ◌≤◌, length, vec_len, OnOk};
+ghost use Rattle.std.specs.Prelude.{◌≡◌, ◌+◌, ◌<◌, ◌≤◌, length, vec_len, OnOk};
+ghost use Rattle.sat_base.specs.declared.limits.TheConstants as limits;
+ghost use Rattle.sat_base.specs.Moments.{IsMoment};
 
 use crate::driver::Driver;
 use crate::opening::PIECES;
@@ -29,8 +31,8 @@ impl Driver {
 
     /// Uploads a segment of so many bytes as the choice says, and commits it, where it is offered places.
     pub(crate) fn upload(&mut self, now: Moment, choice: u64) -> Result<(), NoMemory>
-        requires timely { now < 2 ^ 36 }
-        requires room { length self.old.run.history + 2 ≤ 65536 }
+        requires timely { IsMoment now }
+        requires room { length self.old.run.history + 2 ≤ limits.TERM }
         ensures { OnOk result (length self.new.run.history ≤ length self.old.run.history + 2) }
     {
         let len = 1 + choice % LONGEST;
@@ -87,9 +89,9 @@ impl Driver {
 
     // Commits a segment with all its pieces.
     fn commit(&mut self, now: Moment, segment: SegId, bytes: Vec<u8>) -> Result<(), NoMemory>
-        requires timely { now < 2 ^ 36 }
+        requires timely { IsMoment now }
         requires short { vec_len bytes ≤ 4096 }
-        requires room { length self.old.run.history < 65536 }
+        requires room { length self.old.run.history < limits.TERM }
         ensures { OnOk result (length self.new.run.history ≡ length self.old.run.history + 1) }
     {
         let request = self.next_request();
@@ -109,8 +111,8 @@ impl Driver {
 
     /// Fetches a piece of the segment that is chosen among those that were committed, and its node presents the order.
     pub(crate) fn fetch(&mut self, now: Moment, choice: u64) -> Result<(), NoMemory>
-        requires timely { now < 2 ^ 36 }
-        requires room { length self.old.run.history + 2 ≤ 65536 }
+        requires timely { IsMoment now }
+        requires room { length self.old.run.history + 2 ≤ limits.TERM }
         ensures { OnOk result (length self.new.run.history ≤ length self.old.run.history + 2) }
     {
         let Some(segment) = self.nodes.uploads.chosen(choice) else {
@@ -144,8 +146,8 @@ impl Driver {
 
     /// The node of the order that was settled last presents it again, where there is one.
     pub(crate) fn present_again(&mut self, now: Moment) -> Result<(), NoMemory>
-        requires timely { now < 2 ^ 36 }
-        requires room { length self.old.run.history < 65536 }
+        requires timely { IsMoment now }
+        requires room { length self.old.run.history < limits.TERM }
         ensures { OnOk result (length self.new.run.history ≤ length self.old.run.history + 1) }
     {
         match self.remembered {
@@ -156,8 +158,8 @@ impl Driver {
 
     // A node presents its order.
     fn settle(&mut self, now: Moment, presented: &Presented) -> Result<(), NoMemory>
-        requires timely { now < 2 ^ 36 }
-        requires room { length self.old.run.history < 65536 }
+        requires timely { IsMoment now }
+        requires room { length self.old.run.history < limits.TERM }
         ensures { OnOk result (length self.new.run.history ≡ length self.old.run.history + 1) }
     {
         let call = settle_call(self.alloc, now, presented)?;

@@ -1,5 +1,6 @@
 // A drill from its first call to its text.
 ghost use Rattle.std.specs.Prelude.{◌≤◌, length, IfOk};
+ghost use Rattle.sat_base.specs.declared.limits.TheConstants as limits;
 ghost use Rattle.sat_drill.specs.Drill.{IsDrilled};
 
 use crate::driver::Driver;
@@ -42,7 +43,7 @@ pub fn drill(alloc: Global, start: u64, calls: u64) -> Result<Drilled, NoMemory>
 
 // Closes the machine, and tells what came of it.
 fn tell(driver: Driver) -> Result<Drilled, NoMemory>
-    requires { length driver.run.history ≤ 65536 }
+    requires { length driver.run.history ≤ limits.TERM }
     ensures { IfOk result (λ d. IsDrilled d.opening.items d.history.items d.wrong d.text) }
 {
     let Driver {

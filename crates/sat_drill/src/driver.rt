@@ -1,5 +1,7 @@
 // The calls of a drill, turn by turn.
-ghost use Rattle.std.specs.Prelude.{◌≡◌, ◌+◌, ◌^◌, ◌<◌, ◌≤◌, [], length, IfOk, OnOk};
+ghost use Rattle.std.specs.Prelude.{◌≡◌, ◌+◌, ◌<◌, ◌≤◌, [], length, IfOk, OnOk};
+ghost use Rattle.sat_base.specs.declared.limits.TheConstants as limits;
+ghost use Rattle.sat_base.specs.Moments.{IsMoment};
 
 use crate::altering::Altering;
 use crate::generator::Generator;
@@ -79,7 +81,7 @@ impl Driver {
     /// Makes the turn of this number, counted from 1: the next word says what it does.
     pub fn turn(&mut self, number: u64) -> Result<(), NoMemory>
         requires number { number ≤ 20000 }
-        requires room { length self.old.run.history + 2 ≤ 65536 }
+        requires room { length self.old.run.history + 2 ≤ limits.TERM }
         ensures { OnOk result (length self.new.run.history ≤ length self.old.run.history + 2) }
     {
         let now = Moment::of(FIRST_MOMENT + 60 * number);
@@ -97,7 +99,7 @@ impl Driver {
 
     /// Closes the month.
     pub fn end(&mut self) -> Result<(), NoMemory>
-        requires { length self.old.run.history < 65536 }
+        requires { length self.old.run.history < limits.TERM }
         ensures { OnOk result (length self.new.run.history ≡ length self.old.run.history + 1) }
     {
         let now = Moment::of(END);
@@ -108,8 +110,8 @@ impl Driver {
 
     // Plans what the satellite does on its own account, asks the nodes of the plan, and ends it.
     fn keep_up(&mut self, now: Moment, kind: Upkeep) -> Result<(), NoMemory>
-        requires timely { now < 2 ^ 36 }
-        requires room { length self.old.run.history + 2 ≤ 65536 }
+        requires timely { IsMoment now }
+        requires room { length self.old.run.history + 2 ≤ limits.TERM }
         ensures { OnOk result (length self.new.run.history ≤ length self.old.run.history + 2) }
     {
         let words = self.words.words(self.alloc, words_of(kind))?;
@@ -118,8 +120,8 @@ impl Driver {
 
     // Counts the bytes of the hour.
     fn tally(&mut self, now: Moment) -> Result<(), NoMemory>
-        requires timely { now < 2 ^ 36 }
-        requires room { length self.old.run.history < 65536 }
+        requires timely { IsMoment now }
+        requires room { length self.old.run.history < limits.TERM }
         ensures { OnOk result (length self.new.run.history ≡ length self.old.run.history + 1) }
     {
         self.run.enter(Call::Own {

@@ -1,8 +1,9 @@
 // The store of a drill.
 ghost use Rattle.std.specs.Prelude.{◌≡◌, ◌≤◌, [], IfOk};
+ghost use Rattle.sat_base.specs.declared.limits.TheConstants as limits;
 
 use crate::steady::Steady;
-use sat_base::{Caps, MemClock, MemWords, NoMemory, Rates, Scheme};
+use sat_base::{Caps, MemClock, MemWords, NoMemory, Rates, Scheme, limits};
 use sat_book::Book;
 use sat_init::{Setup, init};
 use std::alloc::Global;
@@ -14,8 +15,6 @@ pub(crate) const FIRST_MOMENT: u64 = 1_772_323_200;
 pub(crate) const PIECES: u8 = 6;
 
 // A book has room for so many entries, of which a drill makes no more than some forty thousand.
-const TERM: u64 = 65536;
-
 fn setup() -> Setup {
     Setup {
         secret: Some([0; 32]),
@@ -41,7 +40,7 @@ fn setup() -> Setup {
 /// Makes the store of a drill in a keeper in memory, and opens a book over it. It fails only where memory runs out.
 pub(crate) fn open_book(alloc: Global) -> Result<Book<Steady>, NoMemory>
     ensures empty { IfOk result (λ book. book.history ≡ []) }
-    ensures room { IfOk result (λ book. 65536 ≤ book.room) }
+    ensures room { IfOk result (λ book. limits.TERM ≤ book.room) }
 {
     let mut keeper = Steady::new(alloc);
     let mut clock = MemClock::of(vec![in alloc; FIRST_MOMENT]?);
@@ -49,7 +48,7 @@ pub(crate) fn open_book(alloc: Global) -> Result<Book<Steady>, NoMemory>
     if init(alloc, &setup(), &mut keeper, &mut clock, &mut words).is_err() {
         return Err(NoMemory);
     }
-    match Book::open(alloc, keeper, TERM) {
+    match Book::open(alloc, keeper, limits::TERM) {
         Ok(book) => Ok(book),
         Err(_) => Err(NoMemory),
     }

@@ -1,5 +1,6 @@
 // Orders that a customer gives to nodes.
-ghost use Rattle.std.specs.Prelude.{◌^◌, ◌<◌, IfOk};
+ghost use Rattle.std.specs.Prelude.{IfOk};
+ghost use Rattle.sat_base.specs.Moments.{IsMoment};
 ghost use Rattle.machine_step.specs.Step.{IsWellFormed};
 ghost use Rattle.machine_step.specs.Tables.{Tables};
 
@@ -46,7 +47,7 @@ pub(crate) fn settle_call(
     now: Moment,
     presented: &Presented,
 ) -> Result<Call, NoMemory>
-    requires { now < 2 ^ 36 }
+    requires { IsMoment now }
     ensures { (t : Tables) → IfOk result (IsWellFormed t) }
 {
     are_bytes(&presented.order);

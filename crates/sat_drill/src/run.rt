@@ -1,5 +1,7 @@
 // The machine of a drill, and what of its store nodes are asked with.
-ghost use Rattle.std.specs.Prelude.{◌≡◌, ◌+◌, ◌^◌, ◌<◌, ◌≤◌, [], length, IfOk, OnOk};
+ghost use Rattle.std.specs.Prelude.{◌≡◌, ◌+◌, ◌<◌, ◌≤◌, [], length, IfOk, OnOk};
+ghost use Rattle.sat_base.specs.declared.limits.TheConstants as limits;
+ghost use Rattle.sat_base.specs.Moments.{IsMoment};
 ghost use Rattle.machine_step.specs.Step.{IsWellFormed};
 ghost use Rattle.node_rounds.specs.Upkeep as rules;
 ghost use Rattle.sat_book.specs.Book.{start_of};
@@ -49,7 +51,7 @@ impl Run {
     /// The machine of a book that has no entries, and room for a whole term. It fails only where memory runs out.
     pub fn of(alloc: Global, book: Book<Steady>) -> Result<Run, NoMemory>
         requires empty { book.history ≡ [] }
-        requires room { 65536 ≤ book.room }
+        requires room { limits.TERM ≤ book.room }
         ensures { IfOk result (λ run. run.history ≡ []) }
     {
         // the tables are those that it was opened with
@@ -71,7 +73,7 @@ impl Run {
 
     /// Enters a call. It fails only where memory runs out, also where that is what the machine answers.
     pub fn enter(&mut self, call: Call) -> Result<Reply, NoMemory>
-        requires room { length self.old.history < 65536 }
+        requires room { length self.old.history < limits.TERM }
         requires formed { IsWellFormed (start_of self.old.opening) call }
         ensures opening { self.new.opening ≡ self.old.opening }
         ensures one_more { length self.new.history ≡ length self.old.history + 1 }
@@ -93,9 +95,9 @@ impl Run {
         now: Moment,
         words: Words64,
     ) -> Result<(), NoMemory>
-        requires timely { now < 2 ^ 36 }
+        requires timely { IsMoment now }
         requires number { length words ≡ rules.words_of kind }
-        requires room { length self.old.history + 2 ≤ 65536 }
+        requires room { length self.old.history + 2 ≤ limits.TERM }
         ensures { OnOk result (length self.new.history ≤ length self.old.history + 2) }
     {
         let reply = self.enter(plan_call(kind, now, words))?;

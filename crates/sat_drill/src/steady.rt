@@ -33,17 +33,14 @@ impl Steady {
 }
 
 impl Keeper for Steady {
-    ghost faults = { λ _. 0 };
-
-    ghost is_clean = { λ _. Unit {0} };
-
-    ghost is_open = { λ _. Unit {0} };
-
-    ghost tells = { λ _. Unit {0} };
-
-    ghost rows = { λ s. rows_of s.rows };
-
-    ghost leaves = { λ s m. m ≡ rows_of s.rows };
+    ghost about = { λ s. record {
+      faults = 0;
+      is_clean = Unit {0};
+      is_open = Unit {0};
+      tells = Unit {0};
+      rows = rows_of s.rows;
+      leaves = λ m. m ≡ rows_of s.rows;
+    } };
 
     ghost leaves_no_other = { λ s m _ _ is. is };
 

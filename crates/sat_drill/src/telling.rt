@@ -1,5 +1,6 @@
 // The text of a drill.
 ghost use Rattle.std.specs.Prelude.{◌≡◌, ◌≤◌, ◌++◌, length, IfOk, OnOk};
+ghost use Rattle.sat_base.specs.declared.limits.TheConstants as limits;
 ghost use Rattle.sat_drill.specs.Drill.{counts_text, line, numbered};
 
 use crate::counting::{Counted, blamed_sum, count, settled_sum};
@@ -54,7 +55,7 @@ pub(crate) fn text_of(
     wrong: u64,
     sheet: &[u8],
 ) -> Result<Bytes, NoMemory>
-    requires { length history.now ≤ 65536 }
+    requires { length history.now ≤ limits.TERM }
     ensures { IfOk result (λ text. text ≡ counts_text history.now wrong ++ sheet.now) }
 {
     let settled = count(history, Counted::Settled);

@@ -3,11 +3,12 @@ use Rattle.std.proofs.Common.{◌≡◌, ℕ, List, [], ◌∷◌, map, inl, inr
 use Rattle.std.specs.FinMap.{entries, insert, entries-insert}
 use Rattle.std.specs.FinMap.Entries.{put}
 use Rattle.sat_base.specs.declared.rows.Row.{Row}
+use Rattle.sat_base.specs.Keeper.{KeeperView}
 use Rattle.sat_base.specs.Rows.{Rows, AreThe, changed, entry, key_cmp, key_of}
 use Rattle.sat_base.proofs.KeyOrder.{keys_total}
 use Rattle.sat_init.specs.declared.setup.Setup.{Setup}
 use Rattle.sat_init.specs.Init.{IsMade}
-use Rattle.record_rows.specs.declared.records.Rec.TheVariants as records
+use Rattle.record_kinds.specs.declared.rec.Rec.TheVariants as records
 use Rattle.record_rows.specs.Spelling.{row_of}
 use Rattle.sat_init.specs.NewStore.{marks_at, new_rows, puts, settings_of, tariff_from}
 
@@ -33,12 +34,12 @@ made_of setup secret now month rows none =
     ap (three first second third) none ∙ sym (put_three rows first second third)
 
 -- what a crash leaves of the second of two calls, where the first left the rows
-module _ {K : Type 0} (is_clean is_open tells : K → Type 0) (rows : K → Rows) (leaves : K → Rows → Type 0) (setup : Setup) (old mid new : K) where
-  abbrev Leaves : K → K → Type 0
-  Leaves before after = is_clean after → (m : Rows) → leaves after m → leaves before m ⊎ (is_open before × IsMade setup (tells before) (rows before) m)
+module _ (setup : Setup) (old mid new : KeeperView) where
+  abbrev Leaves : KeeperView → KeeperView → Type 0
+  Leaves before after = after.is_clean → (m : Rows) → after.leaves m → before.leaves m ⊎ (before.is_open × IsMade setup before.tells before.rows m)
 
-  pub left_through : (is_clean new → is_clean mid) → (is_clean mid → (m : Rows) → leaves mid m → leaves old m)
-      → (is_open mid → is_open old) → (is_open mid → tells old → tells mid) → (is_open mid → tells old → rows mid ≡ rows old)
+  pub left_through : (new.is_clean → mid.is_clean) → (mid.is_clean → (m : Rows) → mid.leaves m → old.leaves m)
+      → (mid.is_open → old.is_open) → (mid.is_open → old.tells → mid.tells) → (mid.is_open → old.tells → mid.rows ≡ old.rows)
       → Leaves mid new → Leaves old new
   left_through clean crash opened told kept left is_clean_new m at = elim (left is_clean_new m at) [
     | inl before ↦ inl (crash (clean is_clean_new) m before)

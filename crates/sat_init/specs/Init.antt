@@ -1,6 +1,7 @@
 -- What comes of making a store, by what clock, words and keeper tell and by their counts.
-use Rattle.std.specs.Prelude.{◌≡◌, ◌≢◌, ℕ, ◌-◌, ◌^◌, List, [], ◌∷◌, length, min, Option, Some, None}
+use Rattle.std.specs.Prelude.{◌≡◌, ◌≢◌, ℕ, ◌-◌, List, [], ◌∷◌, length, min, Option, Some, None}
 use Rattle.std.specs.List.{flat_map}
+use Rattle.sat_base.specs.declared.limits.TheConstants as limits
 use Rattle.sat_base.specs.declared.rows.Row.{Row}
 use Rattle.sat_base.specs.Clock.{or_zero}
 use Rattle.sat_base.specs.Month.{IsMonthOf}
@@ -37,7 +38,7 @@ pub record Begins (setup : Setup) (told : Told) (secret : List ℕ) (now month :
   pub is_secret : IsSecret setup.secret told.words told.words_after secret
   pub moment : ℕ
   pub timed : or_zero told.coming ≡ with_front (moment ∷ []) told.coming_after
-  pub is_now : now ≡ min moment (2 ^ 36 - 1)
+  pub is_now : now ≡ min moment (limits.MOMENTS - 1)
   pub in_month : IsMonthOf now month
 
 -- a store was made: where the keeper tells, its rows are those of the three records alone

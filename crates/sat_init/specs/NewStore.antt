@@ -8,7 +8,7 @@ use Rattle.sat_base.specs.declared.rows.Change.TheVariants.{Put}
 use Rattle.sat_base.specs.declared.rows.Row.{Row}
 use Rattle.sat_base.specs.declared.settings.Marks.{Marks}
 use Rattle.sat_base.specs.declared.settings.Settings.{Settings}
-use Rattle.record_rows.specs.declared.records.Rec.TheVariants as records
+use Rattle.record_kinds.specs.declared.rec.Rec.TheVariants as records
 use Rattle.record_rows.specs.Spelling.{row_of}
 use Rattle.sat_init.specs.declared.setup.Setup.{Setup}
 

@@ -55,15 +55,15 @@ fn changes_of(
 
 // Whether the keeper has no row.
 fn look<K: Keeper>(alloc: Global, keeper: &mut K) -> Result<(), InitErr>
-    ensures clean { K.is_clean keeper.new → K.is_clean keeper.old }
-    ensures opened { K.is_open keeper.new → K.is_open keeper.old }
-    ensures told { K.is_open keeper.new → K.tells keeper.old → K.tells keeper.new }
-    ensures kept { K.is_open keeper.new → K.tells keeper.old → K.rows keeper.new ≡ K.rows keeper.old }
-    ensures crash { K.is_clean keeper.new → (m : Rows) → K.leaves keeper.new m → K.leaves keeper.old m }
-    ensures faults { K.faults keeper.old ≤ K.faults keeper.new }
-    ensures none { IfOk result (λ _. K.is_open keeper.new → K.tells keeper.old → AreThe (K.rows keeper.old) []) }
-    ensures cause { (before after : ℕ) → IfErr result (λ e. Cause e (K.faults keeper.old) (K.faults keeper.new) before after
-        (K.is_open keeper.new × K.tells keeper.old) (K.rows keeper.old)) }
+    ensures clean { (K.about keeper.new).is_clean → (K.about keeper.old).is_clean }
+    ensures opened { (K.about keeper.new).is_open → (K.about keeper.old).is_open }
+    ensures told { (K.about keeper.new).is_open → (K.about keeper.old).tells → (K.about keeper.new).tells }
+    ensures kept { (K.about keeper.new).is_open → (K.about keeper.old).tells → (K.about keeper.new).rows ≡ (K.about keeper.old).rows }
+    ensures crash { (K.about keeper.new).is_clean → (m : Rows) → (K.about keeper.new).leaves m → (K.about keeper.old).leaves m }
+    ensures faults { (K.about keeper.old).faults ≤ (K.about keeper.new).faults }
+    ensures none { IfOk result (λ _. (K.about keeper.new).is_open → (K.about keeper.old).tells → AreThe (K.about keeper.old).rows []) }
+    ensures cause { (before after : ℕ) → IfErr result (λ e. Cause e (K.about keeper.old).faults (K.about keeper.new).faults before after
+        ((K.about keeper.new).is_open × (K.about keeper.old).tells) (K.about keeper.old).rows) }
 {
     match keeper.load(alloc) {
         Loaded::Rows(rows) if rows.is_empty() => Ok(()),
@@ -81,18 +81,18 @@ fn put<K: Keeper>(
     secret: [u8; 32],
     now: Moment,
 ) -> Result<(), InitErr>
-    ensures clean { K.is_clean keeper.new → K.is_clean keeper.old }
-    ensures opened { K.is_open keeper.new → K.is_open keeper.old }
-    ensures told { K.is_open keeper.new → K.tells keeper.old → K.tells keeper.new }
-    ensures done { IfOk result (λ _. (month : ℕ) × IsMonthOf now month × (K.is_open keeper.new → K.tells keeper.old
-        → K.rows keeper.new ≡ changed (puts (new_rows setup.now secret now month)) (K.rows keeper.old))) }
-    ensures left { IfErr result (λ _. K.is_open keeper.new → K.tells keeper.old → K.rows keeper.new ≡ K.rows keeper.old) }
-    ensures cause { IfErr result (λ e. (e ≡ InitErr.StoreFault → Rose (K.faults keeper.old) (K.faults keeper.new))
+    ensures clean { (K.about keeper.new).is_clean → (K.about keeper.old).is_clean }
+    ensures opened { (K.about keeper.new).is_open → (K.about keeper.old).is_open }
+    ensures told { (K.about keeper.new).is_open → (K.about keeper.old).tells → (K.about keeper.new).tells }
+    ensures done { IfOk result (λ _. (month : ℕ) × IsMonthOf now month × ((K.about keeper.new).is_open → (K.about keeper.old).tells
+        → (K.about keeper.new).rows ≡ changed (puts (new_rows setup.now secret now month)) (K.about keeper.old).rows)) }
+    ensures left { IfErr result (λ _. (K.about keeper.new).is_open → (K.about keeper.old).tells → (K.about keeper.new).rows ≡ (K.about keeper.old).rows) }
+    ensures cause { IfErr result (λ e. (e ≡ InitErr.StoreFault → Rose (K.about keeper.old).faults (K.about keeper.new).faults)
         × ((e ≡ InitErr.NotEmpty) ⊎ (e ≡ InitErr.WordsFault) → ⊥)) }
-    ensures crash { K.is_clean keeper.new → (m : Rows) → K.leaves keeper.new m → K.leaves keeper.old m
-        ⊎ (K.is_open keeper.old × IsMade setup.now (K.tells keeper.old) (K.rows keeper.old) m) }
-    ensures open { IfOk result (λ _. K.is_clean keeper.new → K.is_open keeper.new) }
-    ensures faults { K.faults keeper.old ≤ K.faults keeper.new }
+    ensures crash { (K.about keeper.new).is_clean → (m : Rows) → (K.about keeper.new).leaves m → (K.about keeper.old).leaves m
+        ⊎ ((K.about keeper.old).is_open × IsMade setup.now (K.about keeper.old).tells (K.about keeper.old).rows m) }
+    ensures open { IfOk result (λ _. (K.about keeper.new).is_clean → (K.about keeper.new).is_open) }
+    ensures faults { (K.about keeper.old).faults ≤ (K.about keeper.new).faults }
 {
     let Ok(changes) = changes_of(alloc, setup, secret, now) else {
         return Err(InitErr::NoMemory);
@@ -122,17 +122,17 @@ pub fn init<K: Keeper, T: Clock, W: Words>(
       coming_after = T.coming clock.new;
       words = W.left words.old;
       words_after = W.left words.new;
-    }) key (K.is_open keeper.new × K.tells keeper.old) (K.rows keeper.new)) }
-    ensures cause { IfErr result (λ e. Cause e (K.faults keeper.old) (K.faults keeper.new)
-        (W.faults words.old) (W.faults words.new) (K.is_open keeper.new × K.tells keeper.old) (K.rows keeper.old)) }
-    ensures left { IfErr result (λ _. K.is_open keeper.new → K.tells keeper.old → K.rows keeper.new ≡ K.rows keeper.old) }
-    ensures clean { K.is_clean keeper.new → K.is_clean keeper.old }
-    ensures opened { K.is_open keeper.new → K.is_open keeper.old }
-    ensures told { K.is_open keeper.new → K.tells keeper.old → K.tells keeper.new }
-    ensures open { IfOk result (λ _. K.is_clean keeper.new → K.is_open keeper.new) }
-    ensures crash { K.is_clean keeper.new → (m : Rows) → K.leaves keeper.new m → K.leaves keeper.old m
-        ⊎ (K.is_open keeper.old × IsMade setup.now (K.tells keeper.old) (K.rows keeper.old) m) }
-    ensures faults { K.faults keeper.old ≤ K.faults keeper.new }
+    }) key ((K.about keeper.new).is_open × (K.about keeper.old).tells) (K.about keeper.new).rows) }
+    ensures cause { IfErr result (λ e. Cause e (K.about keeper.old).faults (K.about keeper.new).faults
+        (W.faults words.old) (W.faults words.new) ((K.about keeper.new).is_open × (K.about keeper.old).tells) (K.about keeper.old).rows) }
+    ensures left { IfErr result (λ _. (K.about keeper.new).is_open → (K.about keeper.old).tells → (K.about keeper.new).rows ≡ (K.about keeper.old).rows) }
+    ensures clean { (K.about keeper.new).is_clean → (K.about keeper.old).is_clean }
+    ensures opened { (K.about keeper.new).is_open → (K.about keeper.old).is_open }
+    ensures told { (K.about keeper.new).is_open → (K.about keeper.old).tells → (K.about keeper.new).tells }
+    ensures open { IfOk result (λ _. (K.about keeper.new).is_clean → (K.about keeper.new).is_open) }
+    ensures crash { (K.about keeper.new).is_clean → (m : Rows) → (K.about keeper.new).leaves m → (K.about keeper.old).leaves m
+        ⊎ ((K.about keeper.old).is_open × IsMade setup.now (K.about keeper.old).tells (K.about keeper.old).rows m) }
+    ensures faults { (K.about keeper.old).faults ≤ (K.about keeper.new).faults }
     ensures words_faults { W.faults words.old ≤ W.faults words.new }
 {
     look(alloc, keeper)?;

@@ -3,6 +3,7 @@ use Rattle.std.proofs.Common.{◌≡◌, ℕ, Bool, true, false, List, [], ◌�
 use Rattle.std.specs.List.{list_all}
 use Rattle.std.specs.Prelude.{◌==◌, ◌^◌, ◌<◌, ◌+◌, ◌-◌, ◌/◌, ◌%◌, not, map, filter, if◌then◌else◌, option_to_list, slice_index}
 use Rattle.std.proofs.lemmas.Bool.{and_from}
+use Rattle.sat_base.specs.declared.limits.TheConstants as limits
 use Rattle.sat_base.specs.declared.ids.NodeId.{NodeId}
 use Rattle.sat_base.specs.declared.records.At.{At}
 use Rattle.sat_base.specs.declared.records.Containment.{Containment}
@@ -54,7 +55,7 @@ use Rattle.machine_step.specs.Calls.EndExit.{open_move, end_exit}
 use Rattle.machine_step.proofs.Batches.{each-mapped}
 use Rattle.machine_step.proofs.GrowthLemmas.{found-got}
 use Rattle.machine_step.proofs.Outcomes.{unless-P, with_record-P, if_found-P, if-P}
-use Rattle.machine_step.proofs.RowLemmas.{found_rank}
+use Rattle.machine_step.proofs.RowLemmas.{rank-found}
 use Rattle.machine_step.proofs.SegmentSizes.{found-short}
 use Rattle.machine_store.specs.Store.{ArePlaceable, spares, are_orderly}
 use Rattle.sat_machine.proofs.StayLemmas.{CanTake, can-take, stays-counted}
@@ -123,7 +124,7 @@ module _ (t : Tables) (v : IsValid t) (time : ℕ) where
   doable_recheck_ended : (checked : Checked) (c : Containment) → IsDoable t (recheck_ended t time checked c)
   doable_recheck_ended checks.Pass c = let is = closed kinds.RECHECK_PLAN (settled_as t c Pass) (settled_closing c Pass) in record { placeable = is.0; orderly = is.1 }
   doable_recheck_ended checks.Fail c = let is = closed kinds.RECHECK_PLAN (settled_as t c Fail) (settled_closing c Fail) in record { placeable = is.0; orderly = is.1 }
-  doable_recheck_ended checks.Silent c = let is = closed kinds.RECHECK_PLAN (silent_again t c (c.tries + 1)) (silent_closing c (c.tries + 1) (c.tries + 1 == 3)) in record { placeable = is.0; orderly = is.1 }
+  doable_recheck_ended checks.Silent c = let is = closed kinds.RECHECK_PLAN (silent_again t c (c.tries + 1)) (silent_closing c (c.tries + 1) (c.tries + 1 == limits.TRIES)) in record { placeable = is.0; orderly = is.1 }
 
   pub doable_end_recheck : (plan : RecheckPlan) (checked : Checked) → IsDoable t (end_recheck t time plan checked)
   doable_end_recheck plan checked =
@@ -202,7 +203,7 @@ module _ (t : Tables) (v : IsValid t) (time : ℕ) where
   pub doable_exit : (node : NodeId) → IsDoable t (exit t time node)
   doable_exit node =
       with_record-P (IsDoable t) (still t) (node_at t.nodes node) (refusals.NoNode node) _ (λ found at.
-      doable_exit_as found found.status (ap (λ (k : ℕ). row_at node_rank t.nodes k) (found_rank node_rank t.nodes node.0 found at) ∙ at) refl)
+      doable_exit_as found found.status (ap (λ (k : ℕ). row_at node_rank t.nodes k) (rank-found node_rank t.nodes node.0 found at) ∙ at) refl)
 
   doable_node_exited : (node : Node) → node_at t.nodes node.id ≡ Some node → IsDoable t (node_exited t time node)
   doable_node_exited node at = record { placeable = (tt, (node-placeable t v (record node { status = Exited }) node at (λ lost. refl), (tt, tt))); orderly = refl }

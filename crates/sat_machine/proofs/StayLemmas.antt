@@ -16,7 +16,7 @@ use Rattle.machine_step.specs.Health.{after_outcome}
 use Rattle.machine_step.specs.Tables.{Tables}
 use Rattle.machine_step.proofs.Batches.{CanUpdate}
 use Rattle.machine_step.proofs.Rated.{after-parts, can-outcome}
-use Rattle.machine_step.proofs.RowLemmas.{found_rank}
+use Rattle.machine_step.proofs.RowLemmas.{rank-found}
 use Rattle.machine_store.specs.Store.{is_lost}
 
 -- where the pieces of a node don't count, they don't once this one is put
@@ -47,7 +47,7 @@ stays-after nodes id mark next is = go (node_at nodes id) refl is
     at found there true serves same =
         let equal : after_of found mark ≡ next = cc in
         let parts = after-parts found mark serves in
-        let own : found.id.0 ≡ id.0 = found_rank node_rank nodes id.0 found there in
+        let own : found.id.0 ≡ id.0 = rank-found node_rank nodes id.0 found there in
         let ids : next.id ≡ found.id = ap (λ (n : Node). n.id) (sym equal) ∙ parts.id in
         let here : node_at nodes next.id ≡ Some found = ap (λ (k : NodeId). row_at node_rank nodes k.0) ids ∙ ap (λ (k : ℕ). row_at node_rank nodes k) own ∙ there in
         stays-counted nodes next found here (serves-counts found.status serves)

@@ -40,7 +40,7 @@ use Rattle.machine_step.specs.Step.{risen, asking, operator, case_of, step, afte
 use Rattle.machine_step.specs.Rules.{is_sound_settled}
 use Rattle.machine_step.specs.Bounds.{IsValid}
 use Rattle.machine_step.proofs.Outcomes.{unless-P, with_record-P, if-P, of_caller-P, of_customer-P, unless_caused-P}
-use Rattle.machine_step.proofs.RowLemmas.{found_rank, capped-length}
+use Rattle.machine_step.proofs.RowLemmas.{rank-found, capped-length}
 use Rattle.machine_step.proofs.SettleLemmas.{settles-new}
 use Rattle.machine_step.proofs.StepLemmas.{valid_step, risen_within}
 use Rattle.sat_machine.proofs.Doable.{IsDoable, still, node-placeable, none-next, doable-swept}
@@ -137,7 +137,7 @@ module _ (t : Tables) (v : IsValid t) where
   doable_set_free : (time : ℕ) (node : NodeId) (free : ℕ) → IsDoable t (set_free t time node free)
   doable_set_free time node free =
       with_record-P (IsDoable t) (still t) (node_at t.nodes node) (refusals.NoNode node) _ (λ found at.
-      let same : found.id.0 ≡ node.0 = found_rank node_rank t.nodes node.0 found at in
+      let same : found.id.0 ≡ node.0 = rank-found node_rank t.nodes node.0 found at in
       let here : node_at t.nodes found.id ≡ Some found = ap (λ (k : ℕ). row_at node_rank t.nodes k) same ∙ at in
       if-P (IsDoable t) (still t) (found.free == free) (unchanged replies.FreeSet) (free_set t time found free) (still t replies.FreeSet)
       (record { placeable = (tt, (node-placeable t v (record found { free = free }) found here (λ lost. same_status found here lost), tt)); orderly = refl }))

@@ -1,5 +1,6 @@
 // The machine: a step is prepared, and then finished or forgotten.
 ghost use Rattle.std.specs.Prelude.{◌≡◌, ◌==◌, ◌≤◌, [], All, filter, length, None, Some, IfOk, OnOk, OnErr, IfSome, IsSomeAnd};
+ghost use Rattle.sat_base.specs.declared.limits.TheConstants as limits;
 ghost use Rattle.tally_payout.specs.Sheet.{IsPrintable};
 ghost use Rattle.machine_step.specs.Bounds.{IsValid};
 ghost use Rattle.machine_step.specs.Step.{case_of, step, after, IsWellFormed};
@@ -164,7 +165,7 @@ impl Core {
     /// sheet can be made of them. It fails only where memory runs out.
     pub fn statements(&self, month: Month) -> Result<Vec<Statement>, NoMemory>
         ensures rows { IfOk result (λ rows. rows.items ≡ filter (λ s. s.month.0 == month.0) self.now.tables.statements) }
-        ensures few { IfOk result (λ rows. length rows.items ≤ 65536) }
+        ensures few { IfOk result (λ rows. length rows.items ≤ limits.NODES) }
         ensures small { IfOk result (λ rows. All IsPrintable rows.items) }
     {
         let rows = self.store.pay.statements.copied(self.alloc)?;

@@ -1,5 +1,6 @@
 -- How what was heard is answered, put together.
 use Rattle.std.proofs.Common.{◌≡◌, ℕ, ◌≤◌, List, [], ◌∷◌, length, Bool, true, false, Some, None, refl, sym, ◌∙◌, subst, arith}
+use mathlib.Core.Bool.{or-false}
 use Rattle.sat_base.specs.Outside.{About, CountsExactly}
 use Rattle.sat_base.specs.Streams.{Took, Wrote}
 use Rattle.sat_base.proofs.Told.{with_end-none}
@@ -47,6 +48,7 @@ answers_entered secret k call reply place k' listened after sent stops d is spok
       full = λ q. absurd (cc);
       lawful = d.just;
       stopped = stops_if stops (ends.Entered place sent) k'.seen (λ q. (e, stand, sym is ∙ q));
+      stops_are = or-false (stops_at reply) ∙ sym is;
       said = Some (says.Reply reply);
       ended = (e, stand, refl, refl);
       text = spoke.0;
@@ -64,6 +66,7 @@ answers_full secret k call ticket k' listened after sent full spoke = record {
   full = λ q. marked_full k ticket k' full.0;
   lawful = tt;
   stopped = tt;
+  stops_are = refl;
   said = Some says.Term;
   ended = (call, refl, full.1, refl);
   text = spoke.0;
@@ -80,6 +83,7 @@ answers_edge secret k error listened after sent spoke = record {
   full = λ q. absurd (cc);
   lawful = tt;
   stopped = tt;
+  stops_are = refl;
   said = Some (says.Edge error);
   ended = (refl, refl);
   text = spoke.0;
@@ -96,6 +100,7 @@ answers_wordless secret k listened after sent spoke = record {
   full = λ q. absurd (cc);
   lawful = tt;
   stopped = tt;
+  stops_are = refl;
   said = Some says.Words;
   ended = (refl, refl);
   text = spoke.0;
@@ -115,6 +120,7 @@ answers_unread secret k listened = record {
   full = λ q. absurd (cc);
   lawful = tt;
   stopped = tt;
+  stops_are = refl;
   said = None;
   ended = (refl, refl);
   text = [];
@@ -131,7 +137,7 @@ answers_as {K} secret k heard heard0 listened after k' end' stops k0 end0 is sam
 -- a session is listening, and then an answer
 pub serves_heard : {K : Type 0} (secret : List ℕ) (k : V K) (told : Told) (about listened after : About) (heard : Listened) (end : SessionEnd) (stops : Bool) (k' : V K) → Hears secret about.left told heard
     → (bytes : List ℕ) × Took (MayRead secret) bytes 1 (failed_to_read heard) about listened × (length bytes ≤ max_request)
-    → CountsExactly (failed_to_draw heard) told.faults told.faults_after → Answers secret k heard listened after end stops k' → Serves secret k told about after end k'
+    → CountsExactly (failed_to_draw heard) told.faults told.faults_after → Answers secret k heard listened after end stops k' → Serves secret k told about after end stops k'
 serves_heard secret k told about listened after heard end stops k' hears took drew a = record {
   new = a.new;
   entered = a.entered;
@@ -153,4 +159,5 @@ serves_heard secret k told about listened after heard end stops k' hears took dr
     wrote = a.wrote;
   };
   draws = draws_heard secret about.left told heard a.new hears a.is_of;
+  stops_are = a.stops_are;
 }

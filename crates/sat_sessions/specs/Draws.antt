@@ -1,5 +1,6 @@
 -- The moments and words of a worker's calls, among those that its clock and its source of words gave.
-use Rattle.std.specs.Prelude.{◌≡◌, ◌⊎◌, ℕ, ◌-◌, ◌^◌, List, [], ◌∷◌, map, min, flat_map, Option}
+use Rattle.std.specs.Prelude.{◌≡◌, ◌⊎◌, ℕ, ◌-◌, List, [], ◌∷◌, map, min, flat_map, Option}
+use Rattle.sat_base.specs.declared.limits.TheConstants as limits
 use Rattle.sat_base.specs.Clock.{or_zero}
 use Rattle.sat_base.specs.Outside.{with_front}
 use Rattle.machine_calls.specs.declared.call.Call.{Call}
@@ -22,7 +23,7 @@ IsAmong (x ∷ xs) (y ∷ ys) = ((x ≡ y) × IsAmong xs ys) ⊎ IsAmong (x ∷ 
 
 -- a moment of a clock, as calls have it
 abbrev pub as_moment : ℕ → ℕ
-as_moment given = min given (2 ^ 36 - 1)
+as_moment given = min given (limits.MOMENTS - 1)
 
 -- the moment of a call
 abbrev pub moments_in : Call → List ℕ

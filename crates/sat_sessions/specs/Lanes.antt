@@ -2,11 +2,12 @@
 use Rattle.std.specs.Prelude.{◌≡◌, ℕ, List, [], ◌∷◌, ◌++◌, length, Bool, true, false, Option, Some, slice_get}
 use Rattle.sat_base.specs.Lane.{LaneView, handed, got_back}
 use Rattle.sat_base.specs.Outside.{About, raised}
+use Rattle.turnstile.specs.Known.{own_entries}
 use Rattle.desk_runs.specs.Runs.{Runs, some_is}
 use Rattle.sat_book.specs.Legal.{E}
 use Rattle.sat_sessions.specs.Draws.{Draws}
 use Rattle.sat_sessions.specs.Listening.{Told}
-use Rattle.sat_sessions.specs.Serves.{StopsAt}
+use Rattle.sat_sessions.specs.Serves.{StopsAt, StopsLast}
 use Rattle.sat_sessions.specs.Sessions.{V, Connects, is_full, places_of}
 use Rattle.sat_sessions.specs.declared.lanes.LaneEnd.{LaneEnd}
 use Rattle.sat_sessions.specs.declared.lanes.LaneEnd.TheVariants as causes
@@ -68,6 +69,11 @@ abbrev pub is_term_full : LaneEnd → Bool
 is_term_full causes.TermFull = true
 is_term_full _ = false
 
+-- the worker was told to stop
+abbrev pub is_stopped : LaneEnd → Bool
+is_stopped causes.Stopped = true
+is_stopped _ = false
+
 -- the worker of a lane: its sessions, each from where the one before it ended, and then its last wait
 pub record LaneRan {K : Type 0} (secret : List ℕ) (term : ℕ) (s : PostView) (k : V K) (xs : List Session) (end : LaneEnd) (s' : PostView) (k' : V K) : Type 0 where
   pub before_last : PostView
@@ -76,5 +82,9 @@ pub record LaneRan {K : Type 0} (secret : List ℕ) (term : ℕ) (s : PostView) 
   pub numbered : AreNumbered xs
   -- it ended at the first session that met the full term
   pub met : some_is session_full xs ≡ is_term_full end
+  -- and at the first entry that told it to stop
+  pub made : List E
+  pub made_is : own_entries k' ≡ own_entries k ++ made
+  pub stops : StopsLast (is_stopped end) made
   pub desk : k'.desk ≡ k.desk
   pub base : k'.base ≡ k.base

@@ -1,5 +1,6 @@
 -- What comes of listening to a connection: the call of its wish, with a moment of the clock and random words.
-use Rattle.std.specs.Prelude.{◌≡◌, ◌≢◌, ℕ, ◌-◌, ◌^◌, ◌<◌, List, [], ◌∷◌, length, min, Bool, true, false, Option, Some, Result, Ok, Err}
+use Rattle.std.specs.Prelude.{◌≡◌, ◌≢◌, ℕ, ◌-◌, ◌<◌, List, [], ◌∷◌, length, min, Bool, true, false, Option, Some, Result, Ok, Err}
+use Rattle.sat_base.specs.declared.limits.TheConstants as limits
 use Rattle.sat_base.specs.Clock.{or_zero}
 use Rattle.sat_base.specs.Outside.{with_front}
 use Rattle.machine_calls.specs.declared.call.Call.{Call}
@@ -39,7 +40,7 @@ pub record IsCallOf (wish : Wish) (told : Told) (call : Call) : Type 0 where
   pub drawn : List ℕ
   pub takes : Takes told moment drawn
   pub count : length drawn ≡ words_for wish
-  pub is_call : call ≡ calls.Asked (min moment (2 ^ 36 - 1)) drawn wish
+  pub is_call : call ≡ calls.Asked (min moment (limits.MOMENTS - 1)) drawn wish
 
 -- fewer words came than the wish takes
 pub record LacksWords (wish : Wish) (told : Told) : Type 0 where

@@ -1,8 +1,9 @@
 -- What a session leaves of its pass and of what it was given.
-use Rattle.std.specs.Prelude.{◌≡◌, ℕ, List, [], ◌∷◌, map, Bool, true, false, Option}
+use Rattle.std.specs.Prelude.{◌≡◌, ℕ, List, [], ◌∷◌, ◌++◌, map, Bool, true, false, Option}
 use Rattle.sat_base.specs.Outside.{About}
 use Rattle.sat_base.specs.Streams.{Wrote}
 use Rattle.desk_runs.specs.Entered.{At, Entered, Marked, place_of}
+use Rattle.desk_runs.specs.Runs.{some_is}
 use Rattle.sat_book.specs.Book.{AreOf}
 use Rattle.sat_book.specs.Legal.{E}
 use Rattle.sat_sessions.specs.Draws.{Draws}
@@ -28,6 +29,15 @@ abbrev pub IfStops : Bool → SessionEnd → List E → Type 0
 IfStops true end history = StopsAt end history
 IfStops false end history = Unit {0}
 
+-- an entry at whose reply its worker stops
+abbrev pub is_stop : E → Bool
+is_stop e = stops_at e.reply
+
+-- a worker that stopped made just the last of its entries so, and any other worker none of them
+abbrev pub StopsLast : Bool → List E → Type 0
+StopsLast true made = (front : List E) × (last : E) × (made ≡ front ++ last ∷ []) × (some_is is_stop front ≡ false) × (is_stop last ≡ true)
+StopsLast false made = some_is is_stop made ≡ false
+
 -- at most one entry was made, of the call that was heard
 abbrev pub IsOf : Listened → List E → Type 0
 IsOf heard [] = Unit {0}
@@ -43,6 +53,7 @@ pub record Answers {K : Type 0} (secret : List ℕ) (before : V K) (heard : List
   pub full : is_full end ≡ true → Marked k
   pub lawful : IfEntered end (AreOf before.base k.seen)
   pub stopped : IfStops stops end k.seen
+  pub stops_are : some_is is_stop new ≡ stops
   pub said : Option Said
   pub ended : Ends before.desk.term k.seen end heard said
   pub text : List ℕ
@@ -51,7 +62,7 @@ pub record Answers {K : Type 0} (secret : List ℕ) (before : V K) (heard : List
 
 -- A session: it entered just the entry that it names, of the call that it heard, and what the pass has seen is then a history
 -- of the book. Its moment and words are those that its clock and source gave.
-pub record Serves {K : Type 0} (secret : List ℕ) (before : V K) (told : Told) (about after : About) (end : SessionEnd) (k : V K) : Type 0 where
+pub record Serves {K : Type 0} (secret : List ℕ) (before : V K) (told : Told) (about after : About) (end : SessionEnd) (stops : Bool) (k : V K) : Type 0 where
   pub new : List E
   pub entered : Entered before new k
   pub named : map place_of new ≡ places_of end
@@ -59,3 +70,5 @@ pub record Serves {K : Type 0} (secret : List ℕ) (before : V K) (told : Told) 
   pub lawful : IfEntered end (AreOf before.base k.seen)
   pub connects : Connects secret before.desk.term told about after k.seen end
   pub draws : Draws told new
+  -- its worker stops exactly where its entry tells that the machine stops or has stopped
+  pub stops_are : some_is is_stop new ≡ stops

@@ -55,7 +55,7 @@ pub fn session<K: Keeper, N: Link, T: Clock, W: Words, G: Gate, R: Wait>(
       words_after = W.left words.new;
       faults = W.faults words.old;
       faults_after = W.faults words.new;
-    }) (N.about link.old) (N.about link.new) result.session.end result.pass }
+    }) (N.about link.old) (N.about link.new) result.session.end result.stops result.pass }
     ensures good { IfSome pass.base (λ origin. IsGood keys.now (start_of origin.opening) (record {
       coming = T.coming clock.old;
       coming_after = T.coming clock.new;

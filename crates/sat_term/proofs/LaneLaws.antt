@@ -6,7 +6,8 @@ use Rattle.turnstile.specs.History.{own}
 use Rattle.desk_runs.specs.Runs.{Acts, some_is}
 use Rattle.sat_book.specs.Legal.{E}
 use Rattle.sat_sessions.specs.Draws.{Draws, Gives}
-use Rattle.sat_sessions.specs.Lanes.{PostView, AreNumbered, Closes, LaneTells, is_term_full, session_full, session_places, told_of}
+use Rattle.sat_sessions.specs.Lanes.{PostView, AreNumbered, Closes, LaneTells, is_term_full, session_full, session_places, told_of, is_stopped}
+use Rattle.sat_sessions.specs.Serves.{StopsLast}
 use Rattle.sat_sessions.specs.Sessions.{V, is_words_fault}
 use Rattle.sat_sessions.specs.declared.lanes.LaneEnd.{LaneEnd}
 use Rattle.sat_sessions.specs.declared.lanes.LaneEnd.TheVariants as causes
@@ -116,8 +117,8 @@ module _ (secret : List ℕ) (term : ℕ) (h : List E) where
   failed_of causes.Many xs s0 s s' f c = ap (λ (z : PostView). z.lane.faults) c.0 ∙ f
   failed_of causes.NoMemory xs s0 s s' f c = ap (λ (z : PostView). z.lane.faults) c ∙ f
 
-  pub lane_clauses_at : (row : LaneRow) (made : List E) (m : PostView) → Did row.before row.sessions made m → Closes row.end row.sessions h m row.after → made ≡ own (row.number ∷ []) h → AreNumbered row.sessions → some_is session_full row.sessions ≡ is_term_full row.end → LaneClauses secret term h row
-  lane_clauses_at row made m a closes is numbered met =
+  pub lane_clauses_at : (row : LaneRow) (made : List E) (m : PostView) → Did row.before row.sessions made m → Closes row.end row.sessions h m row.after → made ≡ own (row.number ∷ []) h → AreNumbered row.sessions → some_is session_full row.sessions ≡ is_term_full row.end → StopsLast (is_stopped row.end) (own (row.number ∷ []) h) → LaneClauses secret term h row
+  lane_clauses_at row made m a closes is numbered met stops =
       let same = closes_same row.end row.sessions m row.after closes in
       let d : Draws (told_of row.before m) (own (row.number ∷ []) h) = subst (λ (l : List E). Draws (told_of row.before m) l) is (did_draw row.before row.sessions made m a) in
       let f = did_faults row.before row.sessions made m a in
@@ -126,6 +127,7 @@ module _ (secret : List ℕ) (term : ℕ) (h : List E) where
         numbered = numbered;
         cause = cause_of row.end row.sessions row.before m row.after (did_wait row.before row.sessions made m a) closes;
         met = met;
+        stops = stops;
         failed = failed_of row.end row.sessions row.before m row.after (did_wait row.before row.sessions made m a) closes;
         links = subst (λ (o : Option Links). LinksGrew secret term h row.sessions row.before.lane.links o) (sym same.links) (did_links row.before.lane.links row.sessions row.before made m refl a);
         gave = d.gave;
@@ -138,4 +140,4 @@ module _ (secret : List ℕ) (term : ℕ) (h : List E) where
       }
 
 pub lane_clauses : {K : Type 0} (secret : List ℕ) (term : ℕ) (history : List E) (u : V K) (row : LaneRow) → LaneHolds secret term u row → u.seen ≡ history → LaneClauses secret term history row
-lane_clauses secret term history u row x is = subst (λ (l : List E). LaneClauses secret term l row) is (lane_clauses_at secret term u.seen row (own (row.number ∷ []) u.seen) x.before_last x.done.acts x.closes refl x.numbered x.met)
+lane_clauses secret term history u row x is = subst (λ (l : List E). LaneClauses secret term l row) is (lane_clauses_at secret term u.seen row (own (row.number ∷ []) u.seen) x.before_last x.done.acts x.closes refl x.numbered x.met x.stops)

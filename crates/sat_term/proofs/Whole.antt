@@ -11,9 +11,9 @@ use Rattle.desk_runs.specs.Runs.{some_is}
 use Rattle.desk_runs.proofs.Counting.{covers_rest, flat_again, once_each, rises_apart}
 use Rattle.desk_runs.proofs.Running.{acts_places}
 use Rattle.machine_history.specs.Orders.{SettleOnce}
-use Rattle.sat_base.specs.Rows.{Rows}
+use Rattle.sat_base.specs.Keeper.{KeeperView}
 use Rattle.sat_book.specs.Book.{AreOf, Keeps, Spell, opening_of, start_of}
-use Rattle.sat_book.specs.Legal.{E, IsHistory, last_shown, said_of, replayed}
+use Rattle.sat_book.specs.Legal.{E, IsHistory, last_shown, said_of}
 use Rattle.sat_book.specs.Paid.{ClosedMonthsStay, PaysByTariff}
 use Rattle.sat_book.specs.declared.opening.Opening.{Opening}
 use Rattle.sat_book.specs.declared.opening.Origin.{Origin}
@@ -142,14 +142,14 @@ spell_same opening opening' p = subst (λ (o : Opening). Spell o) p
 pub once_same : (opening opening' : Opening) (history history' : List E) → opening' ≡ opening → history' ≡ history → SettleOnce (start_of opening') (map said_of history') → SettleOnce (start_of opening) (map said_of history)
 once_same opening opening' history history' p q = subst (λ (z : Opening × List E). SettleOnce (start_of z.0) (map said_of z.1)) (λ i. (p i, q i))
 
-pub pays_same : (opening opening' : Opening) (history history' : List E) → opening' ≡ opening → history' ≡ history → PaysByTariff (replayed (start_of opening') history') → PaysByTariff (replayed (start_of opening) history)
-pays_same opening opening' history history' p q = subst (λ (z : Opening × List E). PaysByTariff (replayed (start_of z.0) z.1)) (λ i. (p i, q i))
+pub pays_same : (opening opening' : Opening) (history history' : List E) → opening' ≡ opening → history' ≡ history → PaysByTariff (start_of opening') history' → PaysByTariff (start_of opening) history
+pays_same opening opening' history history' p q = subst (λ (z : Opening × List E). PaysByTariff (start_of z.0) z.1) (λ i. (p i, q i))
 
 pub closed_same : (opening opening' : Opening) (history history' : List E) → opening' ≡ opening → history' ≡ history → ClosedMonthsStay (start_of opening') history' → ClosedMonthsStay (start_of opening) history
 closed_same opening opening' history history' p q = subst (λ (z : Opening × List E). ClosedMonthsStay (start_of z.0) z.1) (λ i. (p i, q i))
 
-module _ {K : Type 0} (is_clean is_open tells : K → Type 0) (rows_at : K → Rows) (leaves : K → Rows → Type 0) where
+module _ {K : Type 0} (about : K → KeeperView) where
   pub keeps_same : (origin origin' : Origin K) (history history' : List E) (keeper : K) → origin' ≡ origin → history' ≡ history
-      → Keeps is_clean is_open tells rows_at leaves origin'.first origin'.opened keeper (start_of origin'.opening) history'
-      → Keeps is_clean is_open tells rows_at leaves origin.first origin.opened keeper (start_of origin.opening) history
-  keeps_same origin origin' history history' keeper p q = subst (λ (z : Origin K × List E). Keeps is_clean is_open tells rows_at leaves z.0.first z.0.opened keeper (start_of z.0.opening) z.1) (λ i. (p i, q i))
+      → Keeps about origin'.first origin'.opened keeper (start_of origin'.opening) history'
+      → Keeps about origin.first origin.opened keeper (start_of origin.opening) history
+  keeps_same origin origin' history history' keeper p q = subst (λ (z : Origin K × List E). Keeps about z.0.first z.0.opened keeper (start_of z.0.opening) z.1) (λ i. (p i, q i))

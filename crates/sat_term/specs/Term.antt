@@ -10,10 +10,10 @@ use Rattle.sat_book.specs.Book.{start_of}
 use Rattle.sat_book.specs.Legal.{E, IsHistory}
 use Rattle.sat_book.specs.declared.opening.Opening.{Opening}
 use Rattle.sat_sessions.specs.Draws.{Gives, IsAmong, as_moment, moments_of, words_of}
-use Rattle.sat_sessions.specs.Lanes.{PostView, AreNumbered, IsLast, is_term_full, session_places, session_full}
+use Rattle.sat_sessions.specs.Lanes.{PostView, AreNumbered, IsLast, is_stopped, is_term_full, session_places, session_full}
 use Rattle.sat_sessions.specs.Listening.{Told}
 use Rattle.sat_sessions.specs.Rounds.{KitView, ends_rounds, is_by_round, round_ends, round_places, round_full}
-use Rattle.sat_sessions.specs.Serves.{StopsAt}
+use Rattle.sat_sessions.specs.Serves.{StopsAt, StopsLast}
 use Rattle.sat_sessions.specs.Sessions.{Connects, is_full, is_words_fault}
 use Rattle.sat_sessions.specs.declared.lanes.TheConstants as bounds
 use Rattle.sat_sessions.specs.declared.lanes.LaneEnd.{LaneEnd}
@@ -77,7 +77,9 @@ pub record LaneClauses (secret : List ℕ) (term : ℕ) (history : List E) (row 
   pub given : row.after.lane.given < 2 ^ 64 - 1 → row.after.lane.given ≡ row.before.lane.given + length row.sessions
   pub numbered : AreNumbered row.sessions
   pub cause : LaneCause row.end row.sessions history row.before.lane row.after.lane
-  -- it ended at the first session that met the full term, and no wait failed but its last
+  -- it ended at the first entry that told it to stop
+  pub stops : StopsLast (is_stopped row.end) (own (row.number ∷ []) history)
+  -- and at the first session that met the full term, and no wait failed but its last
   pub met : some_is session_full row.sessions ≡ is_term_full row.end
   pub failed : row.after.lane.faults ≡ counted (is_failed row.end) row.before.lane.faults
   pub links : LinksGrew secret term history row.sessions row.before.lane.links row.after.lane.links

@@ -1,11 +1,13 @@
 -- What workers that were sent off at once leave.
 use Rattle.std.specs.Prelude.{◌≡◌, ℕ, ◌≤◌, List, [], ◌∷◌, ◌++◌, map, vec_len, vec_capacity}
+use Rattle.turnstile.specs.History.{own}
 use Rattle.turnstile.specs.Known.{kept_half, given_half, own_entries}
 use Rattle.desk_runs.specs.Gathered.{Gathered}
 use Rattle.desk_runs.specs.Runs.{HasDone, some_is}
 use Rattle.sat_book.specs.Legal.{E}
-use Rattle.sat_sessions.specs.Lanes.{PostView, LaneTells, Closes, AreNumbered, is_term_full, session_places, session_full}
+use Rattle.sat_sessions.specs.Lanes.{PostView, LaneTells, Closes, AreNumbered, is_stopped, is_term_full, session_places, session_full}
 use Rattle.sat_sessions.specs.Rounds.{KitView, RoundTells, RoundsClose, is_by_round, round_ends, round_places, round_full}
+use Rattle.sat_sessions.specs.Serves.{StopsLast}
 use Rattle.sat_sessions.specs.Sessions.{V}
 use Rattle.sat_sessions.specs.declared.lanes.LaneEnd.{LaneEnd}
 use Rattle.sat_sessions.specs.declared.rounds.Round.{Round}
@@ -41,6 +43,7 @@ pub record LaneHolds {K : Type 0} (secret : List ℕ) (term : ℕ) (u : V K) (ro
   pub closes : Closes row.end row.sessions u.seen before_last row.after
   pub numbered : AreNumbered row.sessions
   pub met : some_is session_full row.sessions ≡ is_term_full row.end
+  pub stops : StopsLast (is_stopped row.end) (own (row.number ∷ []) u.seen)
 
 -- the rows are those of these lists
 pub record AreRows (rows : List LaneRow) (numbers : List ℕ) (befores : List PostView) (lanes : List (List Session)) (ends : List LaneEnd) (afters : List PostView) : Type 0 where

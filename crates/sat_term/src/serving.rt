@@ -1,8 +1,9 @@
 // A whole term over one book.
 ghost use Rattle.std.specs.Prelude.{◌≡◌, ◌+◌, ◌≤◌, [], length, map, IfOk, IfErr, Some, vec_capacity};
+ghost use Rattle.sat_base.specs.declared.limits.TheConstants as limits;
 ghost use Rattle.machine_history.specs.Orders.{SettleOnce};
 ghost use Rattle.sat_book.specs.Book.{Keeps, Spell, start_of};
-ghost use Rattle.sat_book.specs.Legal.{last_shown, replayed, said_of};
+ghost use Rattle.sat_book.specs.Legal.{last_shown, said_of};
 ghost use Rattle.sat_book.specs.Paid.{ClosedMonthsStay, PaysByTariff};
 ghost use Rattle.sat_sessions.specs.Lanes.{post_view};
 ghost use Rattle.sat_term.specs.Workers.{IsBlank, kits_view};
@@ -66,7 +67,7 @@ pub fn serve_term<
     log: TermLog,
 ) -> Result<Served<K, L, T, W, A, B, C>, NotServed<K, L, T, W, A, B, C>>
     requires book { book.history ≡ [] }
-    requires term { (1 ≤ term) × (term ≤ 65536) × (term ≤ book.room) }
+    requires term { (1 ≤ term) × (term ≤ limits.TERM) × (term ≤ book.room) }
     requires few { length workers.posts.items ≤ 16 }
     requires log { IsBlank (length workers.posts.items) log }
     requires room { length workers.posts.items + 3 ≤ vec_capacity log.numbers }
@@ -77,12 +78,12 @@ pub fn serve_term<
         keys.now term book.opening r.term r.ends
         (map (post_view L.about T.coming W.left W.faults) workers.posts.items) (map (post_view L.about T.coming W.left W.faults) r.workers.posts.items)
         (kits_view A.view B.view C.view workers.kits) (kits_view A.view B.view C.view r.workers.kits)) }
-    ensures faults { IfOk result (λ r. last_shown book.opening.faults r.term.history.items ≤ K.faults r.keeper) }
+    ensures faults { IfOk result (λ r. last_shown book.opening.faults r.term.history.items ≤ (K.about r.keeper).faults) }
     ensures spell { IfOk result (λ _. Spell book.opening) }
     ensures once { IfOk result (λ r. SettleOnce (start_of book.opening) (map said_of r.term.history.items)) }
-    ensures pays { IfOk result (λ r. PaysByTariff (replayed (start_of book.opening) r.term.history.items)) }
+    ensures pays { IfOk result (λ r. PaysByTariff (start_of book.opening) r.term.history.items) }
     ensures closed { IfOk result (λ r. ClosedMonthsStay (start_of book.opening) r.term.history.items) }
-    ensures keeps { IfOk result (λ r. Keeps K.is_clean K.is_open K.tells K.rows K.leaves
+    ensures keeps { IfOk result (λ r. Keeps K.about
         book.first book.opened r.keeper (start_of book.opening) r.term.history.items) }
     ensures err { IfErr result (λ r. (r.book ≡ book) × (r.workers ≡ workers) × (r.log ≡ log)) }
 {

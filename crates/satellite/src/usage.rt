@@ -128,7 +128,7 @@ const FORMS: [Form; 6] = [
                 Need::Free,
                 Value::Number(1, bounds::LANES as u64),
             ),
-            ("--term", Need::Free, Value::Number(1, bounds::TERM)),
+            ("--term", Need::Free, Value::Number(1, limits::TERM)),
             ("--tick", Need::Free, Value::Number(1, bounds::TICK as u64)),
         ],
     },

@@ -3,11 +3,11 @@ use Rattle.std.proofs.Common.{◌≡◌, ℕ, suc, List, [], ◌∷◌, map, Boo
 use Rattle.std.specs.Prelude.{◌⊎◌, ◌||◌, IfSome}
 use Rattle.std.specs.List.{list_any}
 use Rattle.std.proofs.lemmas.Bool.{or_cases}
+use Rattle.sat_base.specs.Keeper.{KeeperView}
 use Rattle.sat_base.specs.Outside.{About, Rose, counted, raised}
 use Rattle.sat_book.specs.Book.{BookView}
 use Rattle.sat_book.specs.Legal.{E}
 use Rattle.sat_book.specs.Openings.{Opens}
-use Rattle.sat_base.specs.Rows.{Rows}
 use Rattle.sat_book.specs.declared.opening.OpenErr.TheVariants as errs
 use Rattle.sat_book.specs.declared.opening.Opening.{Opening}
 use Rattle.sat_sessions.specs.Lanes.{PostView}
@@ -192,10 +192,10 @@ ends_well t rows status old new posts posts_after kits kits_after c before after
   | inr (inr (inr (inr (inr wordless)))) ↦ absurd (elim (c.wordless wordless) [ inl rose ↦ no_words.0 rose | inr rose ↦ no_words.1 rose ])
 ]
 
-module _ {K : Type 0} (faults : K → ℕ) (is_clean is_open tells : K → Type 0) (rows_at : K → Rows) (leaves : K → Rows → Type 0) where
+module _ {K : Type 0} (about : K → KeeperView) where
   -- a sound store isn't opened only for lack of memory
-  pub closed_well : (old new : K) (status : ℕ) (said said_after : About) → NotOpened faults is_clean is_open tells rows_at leaves old new status said said_after
-      → is_open new → tells old → AreSound (rows_at old) → (Rose (faults old) (faults new) → ⊥) → status ≡ 9
+  pub closed_well : (old new : K) (status : ℕ) (said said_after : About) → NotOpened about old new status said said_after
+      → (about new).is_open → (about old).tells → AreSound (about old).rows → (Rose (about old).faults (about new).faults → ⊥) → status ≡ 9
   closed_well old new status said said_after (inl (errs.Fault, refused, inl says)) up told sound no_fault = absurd (no_fault refused.cause)
   closed_well old new status said said_after (inl (errs.BadRow kind id, refused, inl says)) up told sound no_fault =
       let cause = refused.cause in absurd (sound.no_bad_row cause.0 kind id (cause.1 up told) cause.2)
@@ -207,11 +207,11 @@ module _ {K : Type 0} (faults : K → ℕ) (is_clean is_open tells : K → Type 
 
   -- over sound rows, where no count rose and the term wasn't full
   pub serves_well : (told : Option Term) (secret : BookView K → List ℕ) (term lanes : ℕ) (old new : K) (status : ℕ) (said said_after : About) (devices devices_after : DevicesView) (Back : Type 0)
-      → (told ≡ None → NotOpened faults is_clean is_open tells rows_at leaves old new status said said_after × Back)
-      → IfSome told (λ t. (b : BookView K) × Opens faults is_clean is_open tells rows_at leaves old term b
-      × (IsTerm faults is_clean is_open tells rows_at leaves (secret b) term b new t status said said_after devices devices_after
-      ⊎ (IsIdle faults is_clean is_open tells rows_at leaves lanes b new t status said said_after × Back)))
-      → is_open new → tells old → AreSound (rows_at old) → (Rose (faults old) (faults new) → ⊥) → (Rose said.write_faults said_after.write_faults → ⊥)
+      → (told ≡ None → NotOpened about old new status said said_after × Back)
+      → IfSome told (λ t. (b : BookView K) × Opens about old term b
+      × (IsTerm about (secret b) term b new t status said said_after devices devices_after
+      ⊎ (IsIdle about lanes b new t status said said_after × Back)))
+      → (about new).is_open → (about old).tells → AreSound (about old).rows → (Rose (about old).faults (about new).faults → ⊥) → (Rose said.write_faults said_after.write_faults → ⊥)
       → NoneRose devices.posts devices_after.posts → NoWordsRose devices.kits devices_after.kits → (status ≡ 6 → ⊥) → (status ≡ 0) ⊎ (status ≡ 9)
   serves_well None secret term lanes old new status said said_after devices devices_after Back closed ran up told sound no_fault no_cut none no_words no_full =
       inr (closed_well old new status said said_after (closed refl).0 up told sound no_fault)

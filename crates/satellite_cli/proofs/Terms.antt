@@ -1,11 +1,11 @@
 -- A term of `serve`, put together.
 use Rattle.std.proofs.Common.{◌≡◌, ℕ, ◌≤◌, List, map, length, Option, Some, None, subst, sym, inl, inr}
 use Rattle.std.specs.Prelude.{◌⊎◌, IfSome}
+use Rattle.sat_base.specs.Keeper.{KeeperView}
 use Rattle.sat_base.specs.Outside.{About}
-use Rattle.sat_base.specs.Rows.{Rows}
 use Rattle.machine_history.specs.Orders.{SettleOnce}
 use Rattle.sat_book.specs.Book.{BookView, Keeps, Spell, start_of}
-use Rattle.sat_book.specs.Legal.{E, last_shown, replayed, said_of}
+use Rattle.sat_book.specs.Legal.{E, last_shown, said_of}
 use Rattle.sat_book.specs.Openings.{Opens}
 use Rattle.sat_book.specs.Paid.{ClosedMonthsStay, PaysByTariff}
 use Rattle.sat_book.specs.declared.opening.Opening.{Opening}
@@ -37,22 +37,22 @@ pub moved_clauses : (secret : List ℕ) (term : ℕ) (opening : Opening) (t : Te
     → ClausesOf secret term opening t ends a c → ClausesOf secret term opening t ends b d
 moved_clauses secret term opening t ends a b c d before after = subst (λ (z : DevicesView × DevicesView). ClausesOf secret term opening t ends z.0 z.1) (λ i. (before i, after i))
 
-module _ {K : Type 0} (faults : K → ℕ) (is_clean is_open tells : K → Type 0) (rows_at : K → Rows) (leaves : K → Rows → Type 0) where
+module _ {K : Type 0} (about : K → KeeperView) where
   -- what is said of a book's own history holds of the one that it hands out
   pub stands_of : (b : BookView K) (keeper : K) (history history' : List E) → history' ≡ history → Spell b.opening → SettleOnce (start_of b.opening) (map said_of history)
-      → PaysByTariff (replayed (start_of b.opening) history) → ClosedMonthsStay (start_of b.opening) history
-      → Keeps is_clean is_open tells rows_at leaves b.first b.opened keeper (start_of b.opening) history → last_shown b.opening.faults history ≤ faults keeper
-      → Stands faults is_clean is_open tells rows_at leaves b keeper history'
-  stands_of b keeper history history' same spelled once pays closed keeps shown = subst (λ (h : List E). Stands faults is_clean is_open tells rows_at leaves b keeper h) (sym same)
+      → PaysByTariff (start_of b.opening) history → ClosedMonthsStay (start_of b.opening) history
+      → Keeps about b.first b.opened keeper (start_of b.opening) history → last_shown b.opening.faults history ≤ (about keeper).faults
+      → Stands about b keeper history'
+  stands_of b keeper history history' same spelled once pays closed keeps shown = subst (λ (h : List E). Stands about b keeper h) (sym same)
       (record { spelled = spelled; once = once; pays = pays; closed = closed; keeps = keeps; shown = shown })
 
   pub term_of : (secret secret' : List ℕ) (term : ℕ) (b : BookView K) (keeper : K) (t : Term) (ends : Ends) (status : ℕ) (old0 old new : About) (devices devices_after : DevicesView)
       → secret' ≡ secret → ClausesOf secret' term b.opening t ends devices devices_after
       → Spell b.opening → SettleOnce (start_of b.opening) (map said_of t.history.items)
-      → PaysByTariff (replayed (start_of b.opening) t.history.items) → ClosedMonthsStay (start_of b.opening) t.history.items
-      → Keeps is_clean is_open tells rows_at leaves b.first b.opened keeper (start_of b.opening) t.history.items → last_shown b.opening.faults t.history.items ≤ faults keeper
+      → PaysByTariff (start_of b.opening) t.history.items → ClosedMonthsStay (start_of b.opening) t.history.items
+      → Keeps about b.first b.opened keeper (start_of b.opening) t.history.items → last_shown b.opening.faults t.history.items ≤ (about keeper).faults
       → old ≡ old0 → Finishes (flags_of t ends) (length t.history.items) status old new
-      → IsTerm faults is_clean is_open tells rows_at leaves secret term b keeper t status old0 new devices devices_after
+      → IsTerm about secret term b keeper t status old0 new devices devices_after
   term_of secret secret' term b keeper t ends status old0 old new devices devices_after same c0 spelled once pays closed keeps shown quiet f0 =
       let c : ClausesOf secret term b.opening t ends devices devices_after = subst (λ (s : List ℕ). ClausesOf s term b.opening t ends devices devices_after) same c0 in
       let f : Finishes (flags_of t ends) (length t.history.items) status old0 new = subst (λ (x : About). Finishes (flags_of t ends) (length t.history.items) status x new) quiet f0 in
@@ -67,26 +67,26 @@ module _ {K : Type 0} (faults : K → ℕ) (is_clean is_open tells : K → Type 
 
   -- there was no memory for the workers
   pub idle_of : (told : Option Term) (term lanes lanes' : ℕ) (first : K) (b b' : BookView K) (keeper : K) (status : ℕ) (old0 old new : About) (devices devices_after : DevicesView) (Back : Type 0)
-      → Opens faults is_clean is_open tells rows_at leaves first term b → old ≡ old0 → b' ≡ b → lanes' ≡ lanes
-      → IfSome told (λ t. IsIdle faults is_clean is_open tells rows_at leaves lanes' b' keeper t status old new) → Back
-      → IfSome told (λ t. (book : BookView K) × Opens faults is_clean is_open tells rows_at leaves first term book
-      × (IsTerm faults is_clean is_open tells rows_at leaves (start_of book.opening).setup.secret term book keeper t status old0 new devices devices_after
-      ⊎ (IsIdle faults is_clean is_open tells rows_at leaves lanes book keeper t status old0 new × Back)))
+      → Opens about first term b → old ≡ old0 → b' ≡ b → lanes' ≡ lanes
+      → IfSome told (λ t. IsIdle about lanes' b' keeper t status old new) → Back
+      → IfSome told (λ t. (book : BookView K) × Opens about first term book
+      × (IsTerm about (start_of book.opening).setup.secret term book keeper t status old0 new devices devices_after
+      ⊎ (IsIdle about lanes book keeper t status old0 new × Back)))
   idle_of None term lanes lanes' first b b' keeper status old0 old new devices devices_after Back opens quiet same few idle back = tt
   idle_of (Some t) term lanes lanes' first b b' keeper status old0 old new devices devices_after Back opens quiet same few idle back = (
     b,
     opens,
-    inr (subst (λ (z : ℕ × BookView K × About). IsIdle faults is_clean is_open tells rows_at leaves z.0 z.1 keeper t status z.2 new) (λ i. (few i, same i, quiet i)) idle, back),
+    inr (subst (λ (z : ℕ × BookView K × About). IsIdle about z.0 z.1 keeper t status z.2 new) (λ i. (few i, same i, quiet i)) idle, back),
   )
 
   -- what is told of all that came back may be told otherwise
   pub came_back_as : (told : Option Term) (term lanes : ℕ) (first keeper : K) (status : ℕ) (old new : About) (devices devices_after : DevicesView) (A B : Type 0) → (A → B)
-      → IfSome told (λ t. (book : BookView K) × Opens faults is_clean is_open tells rows_at leaves first term book
-      × (IsTerm faults is_clean is_open tells rows_at leaves (start_of book.opening).setup.secret term book keeper t status old new devices devices_after
-      ⊎ (IsIdle faults is_clean is_open tells rows_at leaves lanes book keeper t status old new × A)))
-      → IfSome told (λ t. (book : BookView K) × Opens faults is_clean is_open tells rows_at leaves first term book
-      × (IsTerm faults is_clean is_open tells rows_at leaves (start_of book.opening).setup.secret term book keeper t status old new devices devices_after
-      ⊎ (IsIdle faults is_clean is_open tells rows_at leaves lanes book keeper t status old new × B)))
+      → IfSome told (λ t. (book : BookView K) × Opens about first term book
+      × (IsTerm about (start_of book.opening).setup.secret term book keeper t status old new devices devices_after
+      ⊎ (IsIdle about lanes book keeper t status old new × A)))
+      → IfSome told (λ t. (book : BookView K) × Opens about first term book
+      × (IsTerm about (start_of book.opening).setup.secret term book keeper t status old new devices devices_after
+      ⊎ (IsIdle about lanes book keeper t status old new × B)))
   came_back_as None term lanes first keeper status old new devices devices_after A B turn ran = tt
   came_back_as (Some t) term lanes first keeper status old new devices devices_after A B turn (b, opens, inl is) = (b, opens, inl is)
   came_back_as (Some t) term lanes first keeper status old new devices devices_after A B turn (b, opens, inr (idle, back)) = (b, opens, inr (idle, turn back))

@@ -1,7 +1,7 @@
 -- What `sheet` prints, and what it leaves in the keeper.
 use Rattle.std.specs.Prelude.{◌≡◌, ◌⊎◌, ℕ, ◌<◌, ◌≤◌, codes}
+use Rattle.sat_base.specs.Keeper.{KeeperView}
 use Rattle.sat_base.specs.Outside.{About, Rose, with_end}
-use Rattle.sat_base.specs.Rows.{Rows}
 use Rattle.machine_step.specs.Tables.{Tables}
 use Rattle.sat_book.specs.Book.{BookView, Keeps, Spell, start_of}
 use Rattle.sat_book.specs.Openings.{Opens}
@@ -22,18 +22,18 @@ Prints t month status old new =
     ⊎ (((status ≡ 8) × (t.marks.month.0 ≤ month) × Says (codes "error: refused month-open\n") old new)
     ⊎ ((status ≡ 9) × Says (fault_line 9) old new))
 
-module _ {K : Type 0} (faults : K → ℕ) (is_clean is_open tells : K → Type 0) (rows_at : K → Rows) (leaves : K → Rows → Type 0) where
+module _ {K : Type 0} (about : K → KeeperView) where
   -- over the book that was opened over the keeper: its tables are those that its rows spell, what was printed is of them, and the
   -- keeper that comes back is the book's, with these rows
   pub record IsPrintedOf (book : BookView K) (month : ℕ) (old new : K) (status : ℕ) (said said_after : About) : Type 0 where
-    pub opens : Opens faults is_clean is_open tells rows_at leaves old 1 book
+    pub opens : Opens about old 1 book
     pub keeper : new ≡ book.keeper
     pub spelled : Spell book.opening
-    pub keeps : Keeps is_clean is_open tells rows_at leaves book.first book.opened new (start_of book.opening) book.history
+    pub keeps : Keeps about book.first book.opened new (start_of book.opening) book.history
     pub prints : Prints (start_of book.opening) month status said said_after
 
   -- there is no book, and it is said why; or there is one, and it was printed
   abbrev pub IsPrinted : ℕ → (old new : K) → ℕ → (said said_after : About) → Type 0
   IsPrinted month old new status said said_after =
-      NotOpened faults is_clean is_open tells rows_at leaves old new status said said_after
+      NotOpened about old new status said said_after
       ⊎ ((book : BookView K) × IsPrintedOf book month old new status said said_after)

@@ -1,5 +1,6 @@
 -- What `serve` leaves: where its book isn't opened, and where it is.
 use Rattle.std.specs.Prelude.{◌≡◌, ◌⊎◌, ℕ, ◌+◌, ◌-◌, ◌^◌, ◌<◌, ◌≤◌, List, [], ◌∷◌, length, map, ◌||◌, true, Option, Some, slice_get}
+use Rattle.sat_base.specs.Keeper.{KeeperView}
 use Rattle.sat_base.specs.Lane.{LaneView}
 use Rattle.sat_base.specs.Outside.{About, Rose}
 use Rattle.sat_base.specs.Rows.{Rows, AreThe}
@@ -9,7 +10,7 @@ use Rattle.sat_base.specs.declared.nodes.Held.{Held}
 use Rattle.sat_base.specs.declared.rows.Row.{Row}
 use Rattle.machine_history.specs.Orders.{SettleOnce}
 use Rattle.sat_book.specs.Book.{BookView, Keeps, Spell, start_of}
-use Rattle.sat_book.specs.Legal.{E, last_shown, replayed, said_of}
+use Rattle.sat_book.specs.Legal.{E, last_shown, said_of}
 use Rattle.sat_book.specs.Paid.{ClosedMonthsStay, PaysByTariff}
 use Rattle.sat_book.specs.Opened.{IsFirstBad}
 use Rattle.sat_book.specs.Openings.{BreaksRule, Refuses}
@@ -100,11 +101,11 @@ pub record Causes (t : Term) (rows : List LaneRow) (kits kits_after : Kits) (sta
   pub cut : status ≡ 5 → Rose old.write_faults new.write_faults
   pub which : (status ≡ 0) ⊎ ((status ≡ 5) ⊎ ((status ≡ 6) ⊎ ((status ≡ 7) ⊎ ((status ≡ 9) ⊎ (status ≡ 10)))))
 
-module _ {K : Type 0} (faults : K → ℕ) (is_clean is_open tells : K → Type 0) (rows_at : K → Rows) (leaves : K → Rows → Type 0) where
+module _ {K : Type 0} (about : K → KeeperView) where
   -- there is no book, and it is said why; or there was no memory to begin
   abbrev pub NotOpened : (old new : K) → ℕ → (said said_after : About) → Type 0
   NotOpened old new status said said_after =
-      ((why : OpenErr) × Refuses faults is_clean is_open tells rows_at leaves old new why × SaysWhy why status said said_after)
+      ((why : OpenErr) × Refuses about old new why × SaysWhy why status said said_after)
       ⊎ ((new ≡ old) × (status ≡ 9) × Says (fault_line 9) said said_after)
 
   -- what a book's history is to its opening and its keeper: each order settles once, operators are paid by the tariff, closed
@@ -112,10 +113,10 @@ module _ {K : Type 0} (faults : K → ℕ) (is_clean is_open tells : K → Type 
   pub record Stands (b : BookView K) (keeper : K) (history : List E) : Type 0 where
     pub spelled : Spell b.opening
     pub once : SettleOnce (start_of b.opening) (map said_of history)
-    pub pays : PaysByTariff (replayed (start_of b.opening) history)
+    pub pays : PaysByTariff (start_of b.opening) history
     pub closed : ClosedMonthsStay (start_of b.opening) history
-    pub keeps : Keeps is_clean is_open tells rows_at leaves b.first b.opened keeper (start_of b.opening) history
-    pub shown : last_shown b.opening.faults history ≤ faults keeper
+    pub keeps : Keeps about b.first b.opened keeper (start_of b.opening) history
+    pub shown : last_shown b.opening.faults history ≤ (about keeper).faults
 
   -- a term of the book: whose replies are those of one machine, which worker made which entry, what each round asked and
   -- found, and why each worker ended

@@ -40,13 +40,13 @@ pub(crate) fn make_store<C: Link, K: Keeper, T: Clock, W: Words>(
       coming_after = T.coming clock.new;
       words = W.left words.old;
       words_after = W.left words.new;
-    }) (code_of result) (C.about console.old) (C.about console.new) (K.faults keeper.old) (K.faults keeper.new)
-        (W.faults words.old) (W.faults words.new) (K.is_open keeper.new × K.tells keeper.old) (K.rows keeper.old) (K.rows keeper.new) }
-    ensures crash { K.is_clean keeper.new → (m : Rows) → K.leaves keeper.new m → K.leaves keeper.old m
-        ⊎ (K.is_open keeper.old × IsMade setup.now (K.tells keeper.old) (K.rows keeper.old) m) }
-    ensures opened { K.is_open keeper.new → K.is_open keeper.old }
-    ensures told { K.is_open keeper.new → K.tells keeper.old → K.tells keeper.new }
-    ensures faults { K.faults keeper.old ≤ K.faults keeper.new }
+    }) (code_of result) (C.about console.old) (C.about console.new) (K.about keeper.old).faults (K.about keeper.new).faults
+        (W.faults words.old) (W.faults words.new) ((K.about keeper.new).is_open × (K.about keeper.old).tells) (K.about keeper.old).rows (K.about keeper.new).rows }
+    ensures crash { (K.about keeper.new).is_clean → (m : Rows) → (K.about keeper.new).leaves m → (K.about keeper.old).leaves m
+        ⊎ ((K.about keeper.old).is_open × IsMade setup.now (K.about keeper.old).tells (K.about keeper.old).rows m) }
+    ensures opened { (K.about keeper.new).is_open → (K.about keeper.old).is_open }
+    ensures told { (K.about keeper.new).is_open → (K.about keeper.old).tells → (K.about keeper.new).tells }
+    ensures faults { (K.about keeper.old).faults ≤ (K.about keeper.new).faults }
 {
     match init(alloc, setup, keeper, clock, words) {
         Ok(key) => {

@@ -1,5 +1,6 @@
 // What is made before the workers of `serve` begin.
 ghost use Rattle.std.specs.Prelude.{◌≡◌, ◌≤◌, ◌+◌, IfOk, IfErr, vec_capacity};
+ghost use Rattle.sat_base.specs.declared.limits.TheConstants as limits;
 ghost use Rattle.sat_book.specs.Openings.{Opens};
 ghost use Rattle.sat_console.specs.Run.{code_of};
 ghost use Rattle.sat_term.specs.Workers.{IsBlank};
@@ -47,12 +48,12 @@ pub(crate) fn open<C: Link, K: Keeper>(
     term: u64,
     lanes: usize,
 ) -> Result<Ready<K>, Closed<K>>
-    requires term { (1 ≤ term) × (term ≤ 65536) }
+    requires term { (1 ≤ term) × (term ≤ limits.TERM) }
     requires few { lanes ≤ 16 }
-    ensures opened { IfOk result (λ r. Opens K.faults K.is_clean K.is_open K.tells K.rows K.leaves keeper term r.book) }
+    ensures opened { IfOk result (λ r. Opens K.about keeper term r.book) }
     ensures blank { IfOk result (λ r. IsBlank lanes r.log × (lanes + 3 ≤ vec_capacity r.log.numbers)) }
     ensures quiet { IfOk result (λ r. C.about console.new ≡ C.about console.old) }
-    ensures closed { IfErr result (λ r. NotOpened K.faults K.is_clean K.is_open K.tells K.rows K.leaves
+    ensures closed { IfErr result (λ r. NotOpened K.about
         keeper r.keeper (code_of r.status) (C.about console.old) (C.about console.new)) }
 {
     let Ok(log) = log_for(alloc, lanes) else {

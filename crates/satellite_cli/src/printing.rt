@@ -48,7 +48,7 @@ pub(crate) fn print_sheet<C: Link, K: Keeper>(
     keeper: K,
     month: Month,
 ) -> Looked<K>
-    ensures { IsPrinted K.faults K.is_clean K.is_open K.tells K.rows K.leaves month.0
+    ensures { IsPrinted K.about month.0
         keeper result.keeper (code_of result.status) (C.about console.old) (C.about console.new) }
 {
     let book = match Book::open(alloc, keeper, 1) {

@@ -1,5 +1,6 @@
 // The command `serve`.
 ghost use Rattle.std.specs.Prelude.{◌≡◌, ◌⊎◌, ◌+◌, ◌≤◌, [], None, IfSome, IsSome, length, vec_capacity};
+ghost use Rattle.sat_base.specs.declared.limits.TheConstants as limits;
 ghost use Rattle.sat_book.specs.Book.{BookView, start_of};
 ghost use Rattle.sat_book.specs.Openings.{Opens};
 ghost use Rattle.sat_console.specs.Run.{code_of};
@@ -65,7 +66,7 @@ fn idle_term<K: Keeper>(alloc: Global, book: Book<K>, log: TermLog, lanes: usize
     ensures none { result.1.history.items ≡ [] }
     ensures passes { length result.1.passes.items ≡ lanes + 3 }
     ensures lists { length result.1.lanes.items ≡ lanes }
-    ensures stands { Stands K.faults K.is_clean K.is_open K.tells K.rows K.leaves book result.0 result.1.history.items }
+    ensures stands { Stands K.about book result.0 result.1.history.items }
 {
     let (keeper, opening, history) = book.close();
     let TermLog {
@@ -107,7 +108,7 @@ fn idle<C: Link, K: Keeper, L, N, T, W, I>(
     requires blank { IsBlank (length devices.posts.items) log }
     requires room { length devices.posts.items + 3 ≤ vec_capacity log.numbers }
     ensures some { IsSome result.term }
-    ensures idle { IfSome result.term (λ t. IsIdle K.faults K.is_clean K.is_open K.tells K.rows K.leaves (length devices.posts.items) book result.keeper t
+    ensures idle { IfSome result.term (λ t. IsIdle K.about (length devices.posts.items) book result.keeper t
         (code_of result.status) (C.about console.old) (C.about console.new)) }
     ensures devices { result.devices ≡ devices }
 {
@@ -143,17 +144,17 @@ pub(crate) fn serve<
     devices: WorkerDevices<L, N, T, W, I>,
     gate: &G,
 ) -> Run<K, L, N, T, W, I>
-    requires term { (1 ≤ term) × (term ≤ 65536) }
+    requires term { (1 ≤ term) × (term ≤ limits.TERM) }
     requires few { length devices.posts.items ≤ 16 }
-    ensures closed { result.term ≡ None → NotOpened K.faults K.is_clean K.is_open K.tells K.rows K.leaves
+    ensures closed { result.term ≡ None → NotOpened K.about
         keeper result.keeper (code_of result.status) (C.about console.old) (C.about console.new) × (result.devices ≡ devices) }
-    ensures term { IfSome result.term (λ t. (book : BookView K) × Opens K.faults K.is_clean K.is_open K.tells K.rows K.leaves
+    ensures term { IfSome result.term (λ t. (book : BookView K) × Opens K.about
         keeper term book
-        × (IsTerm K.faults K.is_clean K.is_open K.tells K.rows K.leaves (start_of book.opening).setup.secret term book result.keeper t
+        × (IsTerm K.about (start_of book.opening).setup.secret term book result.keeper t
         (code_of result.status) (C.about console.old) (C.about console.new)
         (devices_view L.about T.coming W.left W.faults N.held N.asks N.faults I.about devices.posts.items devices.audit devices.repair devices.tally)
         (devices_view L.about T.coming W.left W.faults N.held N.asks N.faults I.about result.devices.posts.items result.devices.audit result.devices.repair result.devices.tally)
-        ⊎ (IsIdle K.faults K.is_clean K.is_open K.tells K.rows K.leaves (length devices.posts.items) book result.keeper t
+        ⊎ (IsIdle K.about (length devices.posts.items) book result.keeper t
         (code_of result.status) (C.about console.old) (C.about console.new) × (result.devices ≡ devices)))) }
     ensures spare { (result.devices.tally.nodes ≡ devices.tally.nodes) × (result.devices.tally.words ≡ devices.tally.words) }
 {

@@ -107,27 +107,27 @@ pub fn satellite<
           words = W.left world.audit.words;
           words_after = W.left result.world.audit.words;
         }) result.status (C.about world.console) (C.about result.world.console)
-        (K.faults world.keeper) (K.faults result.world.keeper)
+        (K.about world.keeper).faults (K.about result.world.keeper).faults
         (W.faults world.audit.words) (W.faults result.world.audit.words)
-        (K.is_open result.world.keeper × K.tells world.keeper) (K.rows world.keeper) (K.rows result.world.keeper))
+        ((K.about result.world.keeper).is_open × (K.about world.keeper).tells) (K.about world.keeper).rows (K.about result.world.keeper).rows)
         ⊎ ((result.status ≡ 9) × (result.world.keeper ≡ world.keeper)
         × Says (fault_line 9) (C.about world.console) (C.about result.world.console)) }
 
     // Over an empty store, while no count rises: 0, or out of memory.
     ensures init_complete { (store : NewStore) → command_of line.now ≡ Some (init store) →
-        K.is_open result.world.keeper → K.tells world.keeper → AreThe (K.rows world.keeper) [] →
-        (Rose (K.faults world.keeper) (K.faults result.world.keeper) → ⊥) →
+        (K.about result.world.keeper).is_open → (K.about world.keeper).tells → AreThe (K.about world.keeper).rows [] →
+        (Rose (K.about world.keeper).faults (K.about result.world.keeper).faults → ⊥) →
         (Rose (W.faults world.audit.words) (W.faults result.world.audit.words) → ⊥) →
         (Rose (C.about world.console).write_faults (C.about result.world.console).write_faults → ⊥) →
         (result.status ≡ 0) ⊎ (result.status ≡ 9) }
 
-    // A crash leaves the rows that the keeper might have left before, or those of the store that was to be made.
+    // A crash leaves the rows that the keeper might have left before, or those of the store that was asked for.
     ensures crash { (store : NewStore) → command_of line.now ≡ Some (init store) →
-        K.is_clean result.world.keeper → (m : Rows) → K.leaves result.world.keeper m → K.leaves world.keeper m
-        ⊎ ((setup : Setup) × K.is_open world.keeper × IsMade setup (K.tells world.keeper) (K.rows world.keeper) m) }
+        (K.about result.world.keeper).is_clean → (m : Rows) → (K.about result.world.keeper).leaves m → (K.about world.keeper).leaves m
+        ⊎ ((setup : Setup) × IsAsked store setup × (K.about world.keeper).is_open × IsMade setup (K.about world.keeper).tells (K.about world.keeper).rows m) }
     // `serve`: without a book, why there is none; all other devices are handed back.
     ensures closed { (server : Server) → command_of line.now ≡ Some (serve server) → result.term ≡ None →
-        NotOpened K.faults K.is_clean K.is_open K.tells K.rows K.leaves
+        NotOpened K.about
         world.keeper result.world.keeper result.status (C.about world.console) (C.about result.world.console)
         × (result.world ≡ record world { console = result.world.console; keeper = result.world.keeper }) }
 
@@ -135,20 +135,20 @@ pub fn satellite<
     // rounds name; the keeper has the rows of its replay; what each round asked and found; and how each worker, and the run,
     // ended. Or memory ran out before the workers began.
     ensures serve { (server : Server) → command_of line.now ≡ Some (serve server) →
-        IfSome result.term (λ t. (book : BookView K) × Opens K.faults K.is_clean K.is_open K.tells K.rows K.leaves
+        IfSome result.term (λ t. (book : BookView K) × Opens K.about
         world.keeper server.term book
-        × (IsTerm K.faults K.is_clean K.is_open K.tells K.rows K.leaves (start_of book.opening).setup.secret server.term book result.world.keeper t
+        × (IsTerm K.about (start_of book.opening).setup.secret server.term book result.world.keeper t
         result.status (C.about world.console) (C.about result.world.console)
         (devices_view L.about T.coming W.left W.faults N.held N.asks N.faults I.about world.posts.items world.audit world.repair world.tally)
         (devices_view L.about T.coming W.left W.faults N.held N.asks N.faults I.about result.world.posts.items result.world.audit result.world.repair result.world.tally)
-        ⊎ (IsIdle K.faults K.is_clean K.is_open K.tells K.rows K.leaves (length world.posts.items) book result.world.keeper t
+        ⊎ (IsIdle K.about (length world.posts.items) book result.world.keeper t
         result.status (C.about world.console) (C.about result.world.console)
         × (result.world ≡ record world { console = result.world.console; keeper = result.world.keeper })))) }
 
     // Over sound rows, while no count rises, and unless the term was full or a lane had all its sessions: 0, or out of memory.
     ensures serve_complete { (server : Server) → command_of line.now ≡ Some (serve server) →
-        K.is_open result.world.keeper → K.tells world.keeper → AreSound (K.rows world.keeper) →
-        (Rose (K.faults world.keeper) (K.faults result.world.keeper) → ⊥) →
+        (K.about result.world.keeper).is_open → (K.about world.keeper).tells → AreSound (K.about world.keeper).rows →
+        (Rose (K.about world.keeper).faults (K.about result.world.keeper).faults → ⊥) →
         (Rose (C.about world.console).write_faults (C.about result.world.console).write_faults → ⊥) →
         NoneRose (map (post_view L.about T.coming W.left W.faults) world.posts.items)
         (map (post_view L.about T.coming W.left W.faults) result.world.posts.items) →
@@ -159,14 +159,14 @@ pub fn satellite<
 
     // `sheet`: why there is no book; or what was printed of it, and its keeper.
     ensures sheet { (asked : MonthSheet) → command_of line.now ≡ Some (sheet asked) →
-        IsPrinted K.faults K.is_clean K.is_open K.tells K.rows K.leaves asked.month
+        IsPrinted K.about asked.month
         world.keeper result.world.keeper result.status (C.about world.console) (C.about result.world.console)
         × (result.world ≡ record world { console = result.world.console; keeper = result.world.keeper }) × (result.term ≡ None) }
 
     // Over sound rows, while no count rises, and of a month that is closed: 0, or out of memory.
     ensures sheet_complete { (asked : MonthSheet) → command_of line.now ≡ Some (sheet asked) →
-        K.is_open result.world.keeper → K.tells world.keeper → AreSound (K.rows world.keeper) →
-        (Rose (K.faults world.keeper) (K.faults result.world.keeper) → ⊥) →
+        (K.about result.world.keeper).is_open → (K.about world.keeper).tells → AreSound (K.about world.keeper).rows →
+        (Rose (K.about world.keeper).faults (K.about result.world.keeper).faults → ⊥) →
         (Rose (C.about world.console).write_faults (C.about result.world.console).write_faults → ⊥) →
         (result.status ≡ 8 → ⊥) →
         (result.status ≡ 0) ⊎ (result.status ≡ 9) }

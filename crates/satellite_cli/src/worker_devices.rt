@@ -61,7 +61,7 @@ pub(crate) fn tools_of<K: Keeper>(alloc: Global, book: &Book<K>) -> Result<Tools
     Ok(Tools { audit, repair })
 }
 
-/// A workers of auditors, repairers and tallies.
+/// A worker of auditors, repairers and tallies.
 pub(crate) type RunWorkers<L, N, T, W, I> = Workers<
     L,
     T,

@@ -1,5 +1,6 @@
 // Commands over the devices of a world.
 ghost use Rattle.std.specs.Prelude.{◌≡◌, ◌≤◌, ◌⊎◌, None, IfSome, length};
+ghost use Rattle.sat_base.specs.declared.limits.TheConstants as limits;
 ghost use Rattle.sat_base.specs.Rows.{Rows};
 ghost use Rattle.sat_book.specs.Book.{BookView, start_of};
 ghost use Rattle.sat_book.specs.Openings.{Opens};
@@ -65,17 +66,17 @@ pub(crate) fn init_world<
       words = W.left world.audit.words;
       words_after = W.left result.world.audit.words;
     }) result.status (C.about world.console) (C.about result.world.console)
-        (K.faults world.keeper) (K.faults result.world.keeper)
+        (K.about world.keeper).faults (K.about result.world.keeper).faults
         (W.faults world.audit.words) (W.faults result.world.audit.words)
-        (K.is_open result.world.keeper × K.tells world.keeper) (K.rows world.keeper) (K.rows result.world.keeper) }
+        ((K.about result.world.keeper).is_open × (K.about world.keeper).tells) (K.about world.keeper).rows (K.about result.world.keeper).rows }
     ensures others { result.world ≡ record world {
       console = result.world.console;
       keeper = result.world.keeper;
       audit = record world.audit { clock = result.world.audit.clock; words = result.world.audit.words };
     } }
     ensures nothing { (result.term ≡ None) × (result.drilled ≡ None) }
-    ensures crash { K.is_clean result.world.keeper → (m : Rows) → K.leaves result.world.keeper m → K.leaves world.keeper m
-        ⊎ (K.is_open world.keeper × IsMade setup.now (K.tells world.keeper) (K.rows world.keeper) m) }
+    ensures crash { (K.about result.world.keeper).is_clean → (m : Rows) → (K.about result.world.keeper).leaves m → (K.about world.keeper).leaves m
+        ⊎ ((K.about world.keeper).is_open × IsMade setup.now (K.about world.keeper).tells (K.about world.keeper).rows m) }
 {
     let mut world = world;
     let status = make_store(
@@ -106,19 +107,19 @@ pub(crate) fn serve_world<
     term: u64,
     world: World<C, K, L, N, T, W, I, G>,
 ) -> Ended<C, K, L, N, T, W, I, G>
-    requires term { (1 ≤ term) × (term ≤ 65536) }
+    requires term { (1 ≤ term) × (term ≤ limits.TERM) }
     requires few { length world.posts.items ≤ 16 }
     ensures not_usage { result.status ≡ 2 → ⊥ }
-    ensures closed { result.term ≡ None → NotOpened K.faults K.is_clean K.is_open K.tells K.rows K.leaves
+    ensures closed { result.term ≡ None → NotOpened K.about
         world.keeper result.world.keeper result.status (C.about world.console) (C.about result.world.console)
         × (result.world ≡ record world { console = result.world.console; keeper = result.world.keeper }) }
-    ensures term { IfSome result.term (λ t. (book : BookView K) × Opens K.faults K.is_clean K.is_open K.tells K.rows K.leaves
+    ensures term { IfSome result.term (λ t. (book : BookView K) × Opens K.about
         world.keeper term book
-        × (IsTerm K.faults K.is_clean K.is_open K.tells K.rows K.leaves (start_of book.opening).setup.secret term book result.world.keeper t
+        × (IsTerm K.about (start_of book.opening).setup.secret term book result.world.keeper t
         result.status (C.about world.console) (C.about result.world.console)
         (devices_view L.about T.coming W.left W.faults N.held N.asks N.faults I.about world.posts.items world.audit world.repair world.tally)
         (devices_view L.about T.coming W.left W.faults N.held N.asks N.faults I.about result.world.posts.items result.world.audit result.world.repair result.world.tally)
-        ⊎ (IsIdle K.faults K.is_clean K.is_open K.tells K.rows K.leaves (length world.posts.items) book result.world.keeper t
+        ⊎ (IsIdle K.about (length world.posts.items) book result.world.keeper t
         result.status (C.about world.console) (C.about result.world.console)
         × (result.world ≡ record world { console = result.world.console; keeper = result.world.keeper })))) }
     ensures spare { (result.world.tally.nodes ≡ world.tally.nodes) × (result.world.tally.words ≡ world.tally.words) }
@@ -185,7 +186,7 @@ pub(crate) fn sheet_world<
     world: World<C, K, L, N, T, W, I, G>,
 ) -> Ended<C, K, L, N, T, W, I, G>
     ensures not_usage { result.status ≡ 2 → ⊥ }
-    ensures printed { IsPrinted K.faults K.is_clean K.is_open K.tells K.rows K.leaves month.0
+    ensures printed { IsPrinted K.about month.0
         world.keeper result.world.keeper result.status (C.about world.console) (C.about result.world.console) }
     ensures others { (result.world ≡ record world { console = result.world.console; keeper = result.world.keeper }) × (result.term ≡ None) }
     ensures no_drill { result.drilled ≡ None }

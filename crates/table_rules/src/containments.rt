@@ -10,7 +10,7 @@ use crate::plans::stripes_of;
 use crate::scan::{Rule, first_bad};
 use node_registry::NodeTable;
 use rows::SlottedRows;
-use sat_base::{At, Containment, Settings};
+use sat_base::{At, Containment, Settings, limits};
 use segment_core::Segment;
 
 #[derive(Drop)]
@@ -44,7 +44,7 @@ impl<'a> ContainmentRule<'a> {
     fn is_owed(&self, row: &Containment) -> bool
         ensures { result ≡ is_owed (setup_of self.now.settings.now) self.now.segments.now.rows row.now }
     {
-        row.tries <= 2
+        row.tries < limits::TRIES
             && match self.segments.get(u128::from(row.segment.0)) {
                 Some(segment) => row.stripe < stripes_of(self.settings, segment),
                 None => true,

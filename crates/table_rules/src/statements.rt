@@ -1,5 +1,6 @@
 // The statements.
 ghost use Rattle.std.specs.Prelude.{◌≡◌, ◌≤◌, All, IfOk};
+ghost use Rattle.sat_base.specs.declared.limits.TheConstants as limits;
 ghost use Rattle.tally_payout.specs.Tariff.{IsRates};
 ghost use Rattle.month_pay.specs.Ledger.{Ledger};
 ghost use Rattle.month_sums.specs.Open.{AreInBounds};
@@ -7,7 +8,7 @@ ghost use Rattle.machine_step.specs.Tables.{setup_of};
 ghost use Rattle.machine_step.specs.Rules.{bad_statement};
 ghost use Rattle.table_rules.specs.Statements.{IsLedgerOf};
 
-use month_sums::{OpenSums, first_broken, no_pots, sums_due};
+use month_sums::{OpenSums, Stated, first_broken, no_pots, sums_due};
 use node_registry::{Left, Node};
 use rows::SlottedRows;
 use sat_base::{Marks, NoMemory, Settings, Tariff};
@@ -35,7 +36,7 @@ pub fn bad_statement(
     rows: &StatementRows,
 ) -> Result<Option<u64>, NoMemory>
     requires begun { settings.now.first_month.0 ≤ marks.now.month.0 }
-    requires early { marks.now.month.0 ≤ 49775 }
+    requires early { marks.now.month.0 ≤ limits.LAST_MONTH }
     requires fit { AreInBounds rows.now.counted.now.rows }
     requires rates { All (λ t. IsRates t.rates) rows.now.tariffs.now }
     ensures { IfOk result (λ place. (l : Ledger)
@@ -45,16 +46,18 @@ pub fn bad_statement(
 {
     let sums = sums_due(alloc, rows.statements, rows.counted)?;
     let mut pots = no_pots(alloc, rows.nodes.len())?;
-    let cap = settings.caps.statements as usize;
+    let stated = Stated {
+        cap: settings.caps.statements as usize,
+        rows: rows.statements,
+        sums: sums.as_slice(),
+        left: rows.left,
+    };
     Ok(first_broken(
         settings.first_month,
         marks.month,
-        cap,
         rows.nodes,
-        rows.statements,
-        sums.as_slice(),
+        &stated,
         pots.as_mut_slice(),
-        rows.left,
         rows.tariffs,
     ))
 }

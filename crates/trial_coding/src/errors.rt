@@ -7,26 +7,42 @@ use crate::random::Random;
 use crate::schemes::scheme;
 use crate::stripes::{decode, said_of_both};
 use bw_decode::{Nearness, Scratch};
+use gf256::mul;
 use rs_stripe::encode_share;
 use sat_base::{Bytes, NoMemory, Scheme, Share};
 use std::alloc::Global;
 use std::process::Abort;
 use trial_indexes::are_in_order;
 
-// Which bytes of an answer are altered.
-#[derive(Clone, Copy, PartialEq, Eq)]
-enum Altered {
-    // Each of them.
+// How an answer is altered.
+#[derive(Clone, Copy)]
+enum Altered<'a> {
+    // In each byte.
     Whole,
-    // One, in another column for each altered answer.
-    Single,
+    // From a column on that is its own, in each byte by its multiple of one byte.
+    Multiples(&'a [u8]),
 }
 
-// Alters the whole share, or its byte `place`.
-fn alter(bytes: &mut [u8], altered: Altered, place: u8, random: &mut Random) {
-    for (c, byte) in bytes.iter_mut().enumerate() {
-        if altered == Altered::Whole || c == usize::from(place) {
-            *byte ^= random.byte() | 1;
+// The coefficients of the polynomials, from the lowest power up, whose roots are the base of the first
+// combination of columns, and those of all four. Alterations by these multiples cancel there.
+const ROOT_AT_FIRST: [u8; 2] = [1, 1];
+
+const ROOTS_AT_ALL: [u8; 5] = [90, 167, 151, 107, 1];
+
+// Alters the whole share, or the bytes from `place` on by multiples of one byte.
+fn alter(bytes: &mut [u8], altered: Altered<'_>, place: u8, random: &mut Random) {
+    match altered {
+        Altered::Whole => {
+            for byte in bytes {
+                *byte ^= random.byte() | 1;
+            }
+        }
+        Altered::Multiples(factors) => {
+            let change = random.byte() | 1;
+            for (c, byte) in bytes.iter_mut().enumerate() {
+                let factor = factors.get(c.wrapping_sub(usize::from(place)));
+                *byte ^= mul(factor.copied().unwrap_or(0), change);
+            }
         }
     }
 }
@@ -47,7 +63,7 @@ fn thirds_altered(
     scheme: &Scheme,
     stripe: &[u8],
     most: u8,
-    altered: Altered,
+    altered: Altered<'_>,
 ) -> Result<Vec<Share>, NoMemory>
     requires { length stripe.now ≡ scheme.now.k * scheme.now.share }
 {
@@ -58,7 +74,7 @@ fn thirds_altered(
         assert!(rt; index < scheme.n);
         let mut bytes = encoded(alloc, scheme, stripe, index)?;
         if i % 3 == 0 && i / 3 < most {
-            alter(bytes.as_mut_slice(), altered, i / 3, &mut random);
+            alter(bytes.as_mut_slice(), altered, i / 3 * 5, &mut random);
         }
         let bytes = Bytes::of(bytes);
         answers.push(Share { index, bytes })?;
@@ -150,7 +166,7 @@ fn systems_solved(
     rt: &impl Abort,
     alloc: Global,
     scheme: &Scheme,
-    altered: Altered,
+    altered: Altered<'_>,
 ) -> Result<Option<u64>, NoMemory> {
     let bytes = random_stripe(alloc, scheme)?;
     let answers = thirds_altered(rt, alloc, scheme, bytes.as_slice(), 25, altered)?;
@@ -162,8 +178,17 @@ fn all_errors_that_can_be(rt: HostRuntime) {
     let scheme = scheme(&rt, 29, 35, 80, 110, 256);
     let whole = systems_solved(&rt, rt.alloc(), &scheme, Altered::Whole);
     assert!(rt; whole == Ok(Some(1)));
-    let single = systems_solved(&rt, rt.alloc(), &scheme, Altered::Single);
-    assert!(rt; matches!(single, Ok(Some(2..=26))));
+    let single = systems_solved(&rt, rt.alloc(), &scheme, Altered::Multiples(&[1]));
+    assert!(rt; single == Ok(Some(1)));
+}
+
+#[test]
+fn alterations_that_cancel(rt: HostRuntime) {
+    let scheme = scheme(&rt, 29, 35, 80, 110, 256);
+    let at_first = Altered::Multiples(&ROOT_AT_FIRST);
+    assert!(rt; systems_solved(&rt, rt.alloc(), &scheme, at_first) == Ok(Some(1)));
+    let at_all = Altered::Multiples(&ROOTS_AT_ALL);
+    assert!(rt; systems_solved(&rt, rt.alloc(), &scheme, at_all) == Ok(Some(25)));
 }
 
 // What is said where 26 of 80 answers are altered.

@@ -8,17 +8,7 @@ use std::alloc::Global;
 fn node(id: u32, port: u16) -> Node
     ensures { result.id.0 ≡ id }
 {
-    Node {
-        id: NodeId(id),
-        addr: 0xc000_0207,
-        port,
-        free: 1 << 40,
-        joined: Moment::of(5),
-        alpha: 1000,
-        beta: 0,
-        passes: 0,
-        status: Status::Active,
-    }
+    Node::joining(NodeId(id), 0xc000_0207, port, 1 << 40, Moment::of(5))
 }
 
 // Adds the next node.

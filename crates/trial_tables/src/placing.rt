@@ -17,15 +17,9 @@ fn add(
 ) -> Result<(), AddErr> {
     let id = table.len() as u32 + 1;
     table.add(Node {
-        id: NodeId(id),
-        addr,
-        port: 28967,
-        free,
-        joined: Moment::of(5),
-        alpha: 1000,
-        beta: 0,
         passes,
         status,
+        ..Node::joining(NodeId(id), addr, 28967, free, Moment::of(5))
     })
 }
 

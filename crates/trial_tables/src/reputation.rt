@@ -8,15 +8,8 @@ fn node(status: Status) -> Node
     ensures { IsRated result }
 {
     Node {
-        id: NodeId(1),
-        addr: 0x0a00_0001,
-        port: 28967,
-        free: 1 << 40,
-        joined: Moment::of(0),
-        alpha: 10000,
-        beta: 0,
-        passes: 0,
         status,
+        ..Node::joining(NodeId(1), 0x0a00_0001, 28967, 1 << 40, Moment::of(0))
     }
 }
 

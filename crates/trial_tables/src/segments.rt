@@ -9,15 +9,8 @@ use std::alloc::Global;
 fn add(table: &mut NodeTable, status: Status) -> Result<(), AddErr> {
     let id = table.len() as u32 + 1;
     table.add(Node {
-        id: NodeId(id),
-        addr: 0xc000_0207,
-        port: 28967,
-        free: 1 << 40,
-        joined: Moment::of(5),
-        alpha: 1000,
-        beta: 0,
-        passes: 0,
         status,
+        ..Node::joining(NodeId(id), 0xc000_0207, 28967, 1 << 40, Moment::of(5))
     })
 }
 

@@ -1,9 +1,10 @@
 // What a row is read as, and what that is written as.
 ghost use Rattle.std.specs.Prelude.{◌≡◌};
 ghost use Rattle.record_rows.specs.Fits.{IsShort};
+ghost use Rattle.record_rows.specs.Versions.{AreWithin};
 
 use record_rows::{
-    Rec, RowErr, Upgraded, read, upgrade, write, write_audit_plan, write_containment,
+    Rec, RowErr, Upgraded, read, upgrade, version_of, write, write_audit_plan, write_containment,
     write_customer, write_exit_plan, write_kept, write_left, write_marks, write_node,
     write_recheck_plan, write_repair_plan, write_segment, write_settings, write_settled,
     write_statement, write_tally, write_tariff,
@@ -49,19 +50,26 @@ fn read_again(alloc: Global, row: &Row) -> Result<&'static str, NoMemory> {
     }
 }
 
-// The bodies of settings, and the id and body of a tariff, in hexadecimal digits.
-fn upgraded_text(alloc: Global, up: &Upgraded) -> Result<String, NoMemory> {
-    let settings = write_settings(alloc, &up.settings)?;
-    let tariff = write_tariff(alloc, &up.tariff)?;
-    let body = hex::encode(alloc, settings.body.as_slice())?;
-    let from = hex::encode(alloc, tariff.id.as_slice())?;
-    let rates = hex::encode(alloc, tariff.body.as_slice())?;
-    Ok(format!(in alloc; "upgrade {body} {from} {rates}")?)
+// The body of the record's row, and the id and the body of that of the implied one, in hexadecimal digits.
+fn upgraded_text(alloc: Global, up: &Upgraded) -> Result<String, NoMemory>
+    requires { AreWithin up.now }
+{
+    let own = write(alloc, &up.rec)?;
+    let body = hex::encode(alloc, own.body.as_slice())?;
+    let Some(also) = &up.also else {
+        return Ok(format!(in alloc; "upgrade {body}")?);
+    };
+    let also = write(alloc, also)?;
+    let also_id = hex::encode(alloc, also.id.as_slice())?;
+    let also_body = hex::encode(alloc, also.body.as_slice())?;
+    Ok(format!(in alloc; "upgrade {body} {also_id} {also_body}")?)
 }
 
 pub fn answer_row(alloc: Global, row: &Row) -> Result<String, NoMemory> {
-    match upgrade(alloc, row)? {
-        Some(up) => upgraded_text(alloc, &up),
-        None => Ok(String::from_str(alloc, read_again(alloc, row)?)?),
+    let version = version_of(alloc, Some(row))?;
+    match upgrade(alloc, version, row) {
+        Ok(Some(up)) => upgraded_text(alloc, &up),
+        Err(RowErr::NoMemory) => Err(NoMemory),
+        _ => Ok(String::from_str(alloc, read_again(alloc, row)?)?),
     }
 }

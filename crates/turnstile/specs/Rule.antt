@@ -2,6 +2,7 @@
 -- The table has two words, the next ticket to draw and the number of calls served, and one slot with the value.
 -- Whoever draws a ticket waits until that many calls were served. Then the value is its own until it serves the next.
 use Rattle.std.specs.Prelude.{◌≡◌, ℕ, ◌+◌, ◌^◌, ◌<◌, ◌≤◌, List, [], ◌∷◌, ◌++◌, length, true, false, cond, nat_lt, Option, Some, None}
+use Rattle.sat_base.specs.declared.limits.TheConstants as limits
 use mathlib.Core.Option.{some, none}
 use mathlib.Core.Option as maybe
 use lib.ListN.{get_elem?}
@@ -71,7 +72,7 @@ module _ {V C A B : Type 0} (base : V → B) (entries : V → List (Entry C A)) 
     -- with whom each pass number stands
     pub owner : ℕ → ℕ
     -- no term is longer, so that the tickets fit their word
-    pub small : term ≤ 65536
+    pub small : term ≤ limits.TERM
     -- the second word is the length of the history: a ticket that equals it is the place of the next entry
     pub words_are : s.words ≡ drawn ∷ length history ∷ []
     pub homes_are : s.homes ≡ home ∷ []

@@ -1,5 +1,6 @@
 //! The desk: threads draw tickets, and each takes its turn when its ticket comes up.
 ghost use Rattle.std.specs.Prelude.{◌≡◌, ℕ, ◌+◌, ◌^◌, ◌<◌, ◌≤◌, [], length, Some, false, IfOk, IfErr};
+ghost use Rattle.sat_base.specs.declared.limits.TheConstants as limits;
 ghost use Rattle.turnstile.specs.History.{own};
 ghost use Rattle.turnstile.specs.Known.{first_pass, with_mark, own_entries, kept_half, given_half, or_else, Enters, Joined, AreApart, HasNumbersOf};
 ghost use Rattle.turnstile.specs.Steps.{Came};
@@ -66,7 +67,7 @@ impl<V: Turn> Desk<V> {
     pub fn new(alloc: Global, value: V, term: u64) -> Result<(Desk<V>, PassAt<V>), (V, NoMemory)>
         requires empty { V.entries value ≡ [] }
         requires lawful { V.lawful (V.base value) [] }
-        requires term { (1 ≤ term) × (term ≤ 65536) × (term ≤ V.room value) }
+        requires term { (1 ≤ term) × (term ≤ limits.TERM) × (term ≤ V.room value) }
         ensures term { IfOk result (λ r. r.0.term ≡ term) }
         ensures first { IfOk result (λ r. r.1 ≡ first_pass r.0 (V.base value)) }
         ensures given_back { IfErr result (λ r. r.0 ≡ value) }

@@ -5,7 +5,7 @@ use Rattle.std.proofs.lemmas.Bool.Decides.{nat_tests}
 use Rattle.std.proofs.lemmas.Bool.{and_from}
 use Rattle.sat_base.specs.declared.requests.Asked.TheVariants as asks
 use Rattle.rows.specs.Slots.{with_row}
-use Rattle.node_registry.specs.Registry.{node_rank, node_at}
+use Rattle.node_registry.specs.Registry.{joining, node_rank, node_at}
 use Rattle.month_pay.proofs.Steps.{same_joined}
 use Rattle.machine_calls.specs.declared.asking.Asking.{Asking}
 use Rattle.machine_calls.specs.declared.refusal.Refusal.TheVariants as refusals
@@ -19,12 +19,12 @@ use Rattle.machine_step.proofs.GrowthLemmas.{none_next}
 use Rattle.machine_step.proofs.MarkLemmas.{month-open}
 use Rattle.machine_step.proofs.Steady.NodeFits.{next_node}
 use Rattle.machine_step.proofs.Fits.{After, still, fitting, timed_fit}
-use Rattle.machine_step.specs.Calls.AddNode.{new_node, node_added, add_node}
+use Rattle.machine_step.specs.Calls.AddNode.{node_added, add_node}
 
 module _ (t : Tables) (v : IsValid t) (asking : Asking) (le : t.marks.time ≤ asking.time) (lt : asking.time < 2 ^ 36) (own : (asking.caller.0 == 0) ≡ true) where
   fit_node_added : (addr port free : ℕ) → nat_le t.setup.caps.nodes (length t.nodes) ≡ false → After t (node_added t asking addr port free)
   fit_node_added addr port free room =
-      let node = new_node (length t.nodes + 1) addr port free asking.time in
+      let node = joining (record { 0 = length t.nodes + 1 }) addr port free asking.time in
       let below : length t.nodes < t.setup.caps.nodes = grind (arith, nat_tests, room) in
       let known : is_known (with_row node_rank t.nodes node) node.id ≡ true = grind (arith, nat_tests, row_at-with_row node_rank t.nodes node node.id.0) in
       let none : node_at t.nodes node.id ≡ None = none_next t.setup t.marks t.nodes 0 node.id.0 v.rules.nodes (omega arith) in

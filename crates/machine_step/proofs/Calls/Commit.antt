@@ -21,7 +21,7 @@ use Rattle.machine_step.specs.Bounds.{IsValid}
 use Rattle.machine_step.proofs.Outcomes.{unless-P, with_record-P, of_customer-P, unless_caused-P}
 use Rattle.machine_step.proofs.PieceLemmas.{all-filtered, apart-filtered, offer-counted}
 use Rattle.machine_step.proofs.GrowthLemmas.{plan-some, sound-fine}
-use Rattle.machine_step.proofs.RowLemmas.{found_rank, length-replaced}
+use Rattle.machine_step.proofs.RowLemmas.{rank-found, length-replaced}
 use Rattle.machine_step.proofs.SegmentLemmas.{IsNext, segments_set}
 use Rattle.machine_step.proofs.Validity.{segments_hold}
 use Rattle.machine_step.specs.Plans.{timed}
@@ -53,7 +53,7 @@ module _ (t : Tables) (v : IsValid t) (asking : Asking) (le : t.marks.time ≤ a
         version = and_from _ _ plan live;
       }) in
       let shorter = length-filter test found.pieces in
-      let same : found.id.0 ≡ segment.0 = found_rank segment_rank t.segments segment.0 found at in
+      let same : found.id.0 ≡ segment.0 = rank-found segment_rank t.segments segment.0 found at in
       let there : is_some (row_at segment_rank t.segments (segment_rank row)) ≡ true = ap (λ (k : ℕ). is_some (row_at segment_rank t.segments k)) same ∙ ap is_some at in
       let kept : Kept = record { caller = asking.caller; number = asking.number; asked = asks.Commit segment indexes; done = dones.Committed segment } in
       let below = found_below t v segment.0 found at in

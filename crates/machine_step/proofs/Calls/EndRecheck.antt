@@ -1,8 +1,9 @@
 -- What the end of a recheck changes fits.
 use Rattle.std.proofs.Common.{◌≡◌, ℕ, ◌+◌, ◌<◌, ◌≤◌, ◌^◌, Bool, true, false, not, [], ◌∷◌, Option, Some, None, refl, sym, ap, ◌∙◌, arith, inr, inl}
-use Rattle.std.specs.Prelude.{if◌then◌else◌, nat_lt, nat_le, ◌==◌, map, option_to_list}
+use Rattle.std.specs.Prelude.{if◌then◌else◌, nat_lt, ◌==◌, map, option_to_list}
 use Rattle.std.proofs.lemmas.Bool.Decides.{nat_tests}
 use Rattle.std.proofs.lemmas.Bool.{and_parts, and_from}
+use Rattle.sat_base.specs.declared.limits.TheConstants as limits
 use Rattle.sat_base.specs.declared.records.Containment.{Containment}
 use Rattle.sat_base.specs.declared.records.Key.TheVariants as keys
 use Rattle.sat_base.specs.Ranks.{containment_rank}
@@ -62,19 +63,19 @@ module _ (t : Tables) (v : IsValid t) (time : ℕ) (le : t.marks.time ≤ time) 
   paid_silent_again c true = paid_settled_as c Fail
   paid_silent_again c false = same_self (ledger_of t)
 
-  fit_silent_again : (c : Containment) → nat_le c.tries 2 ≡ true → has_stripe t.setup (segment_at t.segments c.segment.0) c.stripe ≡ true → nat_lt c.segment.0 t.marks.segment ≡ true → (b : Bool) → (c.tries + 1 == 3) ≡ b
+  fit_silent_again : (c : Containment) → nat_lt c.tries limits.TRIES ≡ true → has_stripe t.setup (segment_at t.segments c.segment.0) c.stripe ≡ true → nat_lt c.segment.0 t.marks.segment ≡ true → (b : Bool) → (c.tries + 1 == limits.TRIES) ≡ b
       → AllFit t.marks.segment (closing kinds.RECHECK_PLAN) (if b then settled_as t c Fail else changes.Containment (record c { tries = c.tries + 1 }) ∷ [])
   fit_silent_again c tries stripe below true is = fit_settled_as c Fail
   fit_silent_again c tries stripe below false is =
-      let less : nat_le (c.tries + 1) 2 ≡ true = grind (arith, nat_tests, tries, is) in
+      let less : nat_lt (c.tries + 1) limits.TRIES ≡ true = grind (arith, nat_tests, tries, is) in
       (record { owed = and_from _ _ less stripe; below = below }, tt)
 
   fit_recheck_ended : (checked : Checked) (c : Containment) → is_owed t.setup t.segments c ≡ true → nat_lt c.segment.0 t.marks.segment ≡ true → After t (recheck_ended t time checked c)
   fit_recheck_ended checks.Pass c owes below = fitting t v (recheck_ended t time checks.Pass c) (paid_settled_as c Pass) (timed_fit t v time le lt, (inr (inl refl), fit_settled_as c Pass))
   fit_recheck_ended checks.Fail c owes below = fitting t v (recheck_ended t time checks.Fail c) (paid_settled_as c Fail) (timed_fit t v time le lt, (inr (inl refl), fit_settled_as c Fail))
   fit_recheck_ended checks.Silent c owes below =
-      let parts = and_parts (nat_le c.tries 2) (has_stripe t.setup (segment_at t.segments c.segment.0) c.stripe) owes in
-      fitting t v (recheck_ended t time checks.Silent c) (paid_silent_again c (c.tries + 1 == 3)) (timed_fit t v time le lt, (inr (inl refl), fit_silent_again c parts.0 parts.1 below (c.tries + 1 == 3) refl))
+      let parts = and_parts (nat_lt c.tries limits.TRIES) (has_stripe t.setup (segment_at t.segments c.segment.0) c.stripe) owes in
+      fitting t v (recheck_ended t time checks.Silent c) (paid_silent_again c (c.tries + 1 == limits.TRIES)) (timed_fit t v time le lt, (inr (inl refl), fit_silent_again c parts.0 parts.1 below (c.tries + 1 == limits.TRIES) refl))
 
   only-is : (test : Containment → Bool) (found : Option Containment) (c : Containment) → only test found ≡ Some c → (found ≡ Some c) × (test c ≡ true)
   only-is test None c is = cc

@@ -14,7 +14,7 @@ use Rattle.machine_step.specs.Tables.{Tables, ledger_of}
 use Rattle.machine_step.specs.Calls.Exit.{exit_as, exit}
 use Rattle.machine_step.specs.Bounds.{IsValid}
 use Rattle.machine_step.proofs.Outcomes.{with_record-P}
-use Rattle.machine_step.proofs.RowLemmas.{found_rank}
+use Rattle.machine_step.proofs.RowLemmas.{rank-found}
 use Rattle.machine_step.proofs.Steady.NodeFits.{update}
 use Rattle.machine_step.proofs.Fits.{After, still, fitting, timed_fit}
 
@@ -27,7 +27,7 @@ module _ (t : Tables) (v : IsValid t) (time : ℕ) (le : t.marks.time ≤ time) 
 
   fit_exit_as : (id : NodeId) (found : Node) → node_at t.nodes id ≡ Some found → (status : Status) → found.status ≡ status → After t (exit_as t time found status)
   fit_exit_as id found at Active is =
-      let same : found.id.0 ≡ id.0 = found_rank node_rank t.nodes id.0 found at in
+      let same : found.id.0 ≡ id.0 = rank-found node_rank t.nodes id.0 found at in
       let there : node_at t.nodes found.id ≡ Some found = ap (λ (k : ℕ). row_at node_rank t.nodes k) same ∙ at in
       let pay = same_set (ledger_of t) (record found { status = Exiting }) found there (record { id = refl; joined = refl; gone = λ gone. absurd (active-serves found.status is gone) }) in
       fitting t v (exit_as t time found Active) pay

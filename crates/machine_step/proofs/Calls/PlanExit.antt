@@ -36,7 +36,7 @@ use Rattle.machine_step.specs.Rules.{first_bad, breaks_node, is_known, are_known
 use Rattle.machine_step.specs.PlanRules.{is_planned_of, is_target_of, is_move_of, is_exited, is_sound_left, is_accounted}
 use Rattle.machine_step.specs.Bounds.{Each, IsValid}
 use Rattle.machine_step.proofs.Outcomes.{unless-P, with_record-P, if_found-P}
-use Rattle.machine_step.proofs.RowLemmas.{row_at-with_row, rising-with_row, all-with_row, all-found, found_rank}
+use Rattle.machine_step.proofs.RowLemmas.{row_at-with_row, rising-with_row, all-with_row, all-found, rank-found}
 use Rattle.machine_step.proofs.PieceLemmas.{known-healthy}
 use Rattle.machine_step.proofs.PickLemmas.{got-picks}
 use Rattle.machine_step.proofs.GrowthLemmas.{extends_set, nodes-set, found-got}
@@ -50,7 +50,7 @@ use Rattle.month_pay.proofs.Steps.{same_then, same_set, same_left}
 use Rattle.machine_step.proofs.Validity.{steady_of}
 use Rattle.machine_step.proofs.Fits.{After, still, fitting_apart, fine_found, picks_found, timed_fit}
 use Rattle.machine_step.proofs.Drawn.{some-within, among-some, drawn_fit, is_drawn_now, version_now}
-use Rattle.machine_step.proofs.RowLemmas.{rising-got}
+use Rattle.machine_step.proofs.RowLemmas.{row_got}
 use Rattle.machine_step.proofs.TakenLemmas.{OffTaken, off-picks, off-member}
 use Rattle.machine_step.proofs.ApartLemmas.{below-place}
 use Rattle.node_registry.specs.Subnet.{subnet_at}
@@ -128,7 +128,7 @@ module _ (t : Tables) (v : IsValid t) (time : ℕ) (le : t.marks.time ≤ time) 
       none-left None is = is
       none-left (Some old) is =
           let sound : is_sound_left t.marks t.nodes old ≡ true = all-found left_rank (is_sound_left t.marks t.nodes) t.left node.id.0 old (steady_of t v).left.all is in
-          let own : old.node.0 ≡ node.id.0 = found_rank left_rank t.left node.id.0 old is in
+          let own : old.node.0 ≡ node.id.0 = rank-found left_rank t.left node.id.0 old is in
           let there : node_at t.nodes old.node ≡ Some node = ap (λ (k : ℕ). row_at node_rank t.nodes k) own ∙ at in
           let stays = exiting-stays node.status exiting in
           absurd (grind (arith, nat_tests, sound, there, stays))
@@ -213,7 +213,7 @@ module _ (t : Tables) (v : IsValid t) (time : ℕ) (le : t.marks.time ≤ time) 
   movable-found node found is =
       let got = first-got (filter (is_movable t node.id) t.segments) found is in
       let kept = got-kept (is_movable t node.id) t.segments found got.0 got.1 in
-      (kept.0, rising-got segment_rank t.segments v.order.segments kept.1.0 found kept.1.1)
+      (kept.0, row_got segment_rank t.segments v.order.segments kept.1.0 found kept.1.1)
 
   pub fit_plan_exit : (words : List ℕ) → After t (plan_exit t time words)
   fit_plan_exit words =

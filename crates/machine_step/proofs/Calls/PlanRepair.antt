@@ -29,7 +29,7 @@ use Rattle.machine_step.proofs.PickLemmas.{got-picks, length-picks, apart-picks,
 use Rattle.machine_step.proofs.IndexLemmas.{by_index-rising, few-pieces}
 use Rattle.machine_step.proofs.Fits.{After, still, fitting_apart, fine_found, picks_found}
 use Rattle.machine_step.proofs.Drawn.{some-within, among-some, drawn_fit, is_drawn_now, version_now}
-use Rattle.machine_step.proofs.RowLemmas.{rising-got}
+use Rattle.machine_step.proofs.RowLemmas.{row_got}
 use Rattle.machine_step.proofs.FreeIndexes.{range-rising, range-below, rising-kept, free-count, length-paired, rising-paired, all-paired, known-paired, subnets-paired}
 use Rattle.machine_step.proofs.TakenLemmas.{OffTaken, off-picks, off-member, apart-both, subnets-append}
 use Rattle.sat_base.specs.declared.limits.TheConstants as limits
@@ -130,7 +130,7 @@ module _ (t : Tables) (v : IsValid t) (time : ℕ) (le : t.marks.time ≤ time) 
   repair-found found is =
       let got = least-got (healthy_count t) (filter (needs_repair t) t.segments) found is in
       let kept = got-kept (needs_repair t) t.segments found got.0 got.1 in
-      (kept.0, rising-got segment_rank t.segments v.order.segments kept.1.0 found kept.1.1)
+      (kept.0, row_got segment_rank t.segments v.order.segments kept.1.0 found kept.1.1)
 
   pub fit_plan_repair : (words : List ℕ) → After t (plan_repair t time words)
   fit_plan_repair words =

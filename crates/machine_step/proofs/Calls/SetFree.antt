@@ -12,7 +12,7 @@ use Rattle.machine_step.specs.Tables.{Tables, ledger_of}
 use Rattle.machine_step.specs.Outcome.{unchanged}
 use Rattle.machine_step.specs.Bounds.{IsValid}
 use Rattle.machine_step.proofs.Outcomes.{with_record-P, if-P}
-use Rattle.machine_step.proofs.RowLemmas.{found_rank}
+use Rattle.machine_step.proofs.RowLemmas.{rank-found}
 use Rattle.machine_step.proofs.Steady.NodeFits.{update}
 use Rattle.machine_step.proofs.Fits.{After, still, fitting, timed_fit}
 use Rattle.machine_step.specs.Calls.SetFree.{free_set, set_free}
@@ -20,7 +20,7 @@ use Rattle.machine_step.specs.Calls.SetFree.{free_set, set_free}
 module _ (t : Tables) (v : IsValid t) (time : ℕ) (le : t.marks.time ≤ time) (lt : time < 2 ^ 36) where
   fit_free_set : (id : NodeId) (found : Node) (free : ℕ) → node_at t.nodes id ≡ Some found → After t (free_set t time found free)
   fit_free_set id found free at =
-      let same : found.id.0 ≡ id.0 = found_rank node_rank t.nodes id.0 found at in
+      let same : found.id.0 ≡ id.0 = rank-found node_rank t.nodes id.0 found at in
       let there : node_at t.nodes found.id ≡ Some found = ap (λ (k : ℕ). row_at node_rank t.nodes k) same ∙ at in
       let pay = same_set (ledger_of t) (record found { free = free }) found there (record { id = refl; joined = refl; gone = λ h. h }) in
       fitting t v (free_set t time found free) pay

@@ -2,9 +2,7 @@
 use Rattle.std.specs.Prelude.{ℕ, ◌+◌, [], ◌∷◌, length, nat_le}
 use Rattle.sat_base.specs.declared.requests.Asked.TheVariants as asks
 use Rattle.sat_base.specs.declared.requests.Done.TheVariants as dones
-use Rattle.node_registry.specs.declared.node.TheConstants.{FIRST_ALPHA}
-use Rattle.node_registry.specs.declared.node.Node.{Node}
-use Rattle.node_registry.specs.declared.node.Status.TheVariants.{Active}
+use Rattle.node_registry.specs.Registry.{joining}
 use Rattle.machine_calls.specs.declared.asking.Asking.{Asking}
 use Rattle.machine_calls.specs.declared.change.RecChange.TheVariants as changes
 use Rattle.machine_calls.specs.declared.refusal.Refusal.TheVariants as refusals
@@ -12,24 +10,10 @@ use Rattle.machine_calls.specs.declared.refusal.TableName.TheVariants as names
 use Rattle.machine_step.specs.Tables.{Tables}
 use Rattle.machine_step.specs.Outcome.{Outcome, unless, of_caller, done_with}
 
--- a node as it joins
-abbrev pub new_node : ℕ → ℕ → ℕ → ℕ → ℕ → Node
-new_node id addr port free time = record {
-  id = record { 0 = id };
-  addr = addr;
-  port = port;
-  free = free;
-  joined = time;
-  alpha = FIRST_ALPHA;
-  beta = 0;
-  passes = 0;
-  status = Active;
-}
-
 abbrev pub node_added : Tables → Asking → ℕ → ℕ → ℕ → Outcome
 node_added t asking addr port free =
     let id = length t.nodes + 1 in
-    done_with (record t.marks { time = asking.time }) (changes.Node (new_node id addr port free asking.time) ∷ [])
+    done_with (record t.marks { time = asking.time }) (changes.Node (joining (record { 0 = id }) addr port free asking.time) ∷ [])
     asking (asks.Node addr port free) (dones.NodeAdded (record { 0 = id }))
 
 abbrev pub add_node : Tables → Asking → ℕ → ℕ → ℕ → Outcome

@@ -1,6 +1,7 @@
 -- A silent node was asked again.
 use Rattle.std.specs.Prelude.{ℕ, ◌+◌, ◌==◌, ◌&&◌, Bool, not, if◌then◌else◌, List, [], ◌∷◌, ◌++◌, map, Option, Some, None, option_to_list}
 use Rattle.std.specs.Str.{bytes_eq}
+use Rattle.sat_base.specs.declared.limits.TheConstants as limits
 use Rattle.sat_base.specs.declared.kinds.TheConstants as kinds
 use Rattle.sat_base.specs.declared.records.Containment.{Containment}
 use Rattle.sat_base.specs.declared.records.Key.TheVariants as keys
@@ -45,7 +46,7 @@ settled_as t containment mark = map changes.Node (option_to_list (after_outcome 
 -- it was silent, for the last time or not
 abbrev pub silent_again : Tables → Containment → ℕ → List RecChange
 silent_again t containment tries =
-    if tries == 3 then settled_as t containment Fail else changes.Containment (record containment { tries = tries }) ∷ []
+    if tries == limits.TRIES then settled_as t containment Fail else changes.Containment (record containment { tries = tries }) ∷ []
 
 abbrev pub recheck_ended : Tables → ℕ → Checked → Containment → Outcome
 recheck_ended t time checks.Pass containment = recheck_closed t time (settled_as t containment Pass) checks.Pass containment.tries

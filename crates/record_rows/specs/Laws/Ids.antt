@@ -1,5 +1,6 @@
 -- Ids, moments, months and hours by their numbers.
 use Rattle.std.proofs.Common.{◌≤◌, arith}
+use Rattle.sat_base.specs.Moments.{IsMoment}
 use Rattle.sat_base.specs.declared.limits.TheConstants as limits
 use Rattle.sat_base.specs.declared.ids.NodeId.{NodeId}
 use Rattle.sat_base.specs.declared.ids.CustomerId.{CustomerId}
@@ -8,7 +9,7 @@ use Rattle.sat_base.specs.declared.ids.Serial.{Serial}
 use Rattle.sat_base.specs.declared.month.Month.{Month}
 use Rattle.sat_base.specs.declared.month.Hour.{Hour}
 use Rattle.sat_base.specs.Limits.{IsMonthWithin}
-use Rattle.record_rows.specs.Numbers.{be32, be64, IsU32, IsU64, IsMoment}
+use Rattle.record_rows.specs.Numbers.{be32, be64, IsU32, IsU64}
 use Rattle.record_rows.specs.Laws.{AreApart, StandByRank}
 use Rattle.record_rows.specs.Laws.Apart.{made_apart, be32_apart, be64_apart}
 use Rattle.record_rows.specs.Laws.Order.{number_order, be32_order, be64_order}

@@ -21,9 +21,9 @@ use Rattle.sat_base.specs.declared.rates.Tariff.{Tariff}
 use Rattle.sat_base.specs.declared.ids.NodeId.{NodeId}
 use Rattle.sat_base.specs.declared.ids.Serial.{Serial}
 use Rattle.settlement.specs.Place.{place}
-use Rattle.record_rows.specs.declared.records.Rec.{Rec}
-use Rattle.record_rows.specs.declared.records.Rec.TheVariants as rec
-use Rattle.record_rows.specs.Spelling.{kind_of}
+use Rattle.record_kinds.specs.declared.rec.Rec.{Rec}
+use Rattle.record_kinds.specs.declared.rec.Rec.TheVariants as rec
+use Rattle.record_kinds.specs.Kinds.{kind_of}
 
 pub the_settings : (r : Rec) → kind_of r ≡ kinds.SETTINGS → (x : Settings) × (r ≡ rec.Settings x)
 the_settings (rec.Settings x) is = (x, refl)

@@ -1,6 +1,7 @@
 -- Kept requests, part by part.
 use Rattle.std.proofs.Common.{◌≡◌, ◌≤◌, ◌∷◌, ◌++◌, ℕ, zero, suc, List, [], length, get_or, drop, arith, refl, ap, lit≤, lit<}
 use Rattle.std.specs.Prelude.{All, IsSome}
+use Rattle.sat_base.specs.Moments.{IsMoment}
 use Rattle.sat_base.specs.declared.limits.TheConstants as limits
 use Rattle.sat_base.specs.declared.requests.Place.{Place}
 use Rattle.sat_base.specs.declared.requests.Offer.{Offer}
@@ -9,7 +10,7 @@ use Rattle.sat_base.specs.declared.requests.Asked.TheVariants as asks
 use Rattle.sat_base.specs.declared.requests.Done.{Done}
 use Rattle.sat_base.specs.declared.requests.Done.TheVariants as dones
 use Rattle.order_limits.specs.Order.{action_of}
-use Rattle.record_rows.specs.Numbers.{IsU8, IsU32, IsU64, IsMoment}
+use Rattle.record_rows.specs.Numbers.{IsU8, IsU32, IsU64}
 use Rattle.record_rows.specs.Requests.{place_bytes, offer_bytes, asked_bytes, done_bytes}
 use Rattle.record_rows.specs.Fits.{PlaceFits, IsOfferWithin, IsAsked, IsDone}
 use Rattle.record_rows.specs.Laws.{AreApart}

@@ -2,7 +2,7 @@
 ghost use Rattle.std.specs.Prelude.{◌≡◌, [], refl};
 ghost use Rattle.std.proofs.Common.{ap};
 ghost use Rattle.sat_base.specs.declared.kinds.TheConstants as kinds;
-ghost use Rattle.record_rows.specs.declared.records.Rec.TheVariants as rec;
+ghost use Rattle.record_kinds.specs.declared.rec.Rec.TheVariants as rec;
 ghost use Rattle.record_rows.specs.Numbers.{be64};
 ghost use Rattle.record_rows.specs.Laws.Apart.{four_first};
 ghost use Rattle.record_rows.specs.Laws.Kinds.{the_audit_plan};
@@ -10,8 +10,8 @@ ghost use Rattle.record_rows.specs.Laws.Kinds.{the_audit_plan};
 use crate::coded::Spelled;
 use crate::kind::Kind;
 use crate::places::Places;
-use crate::records::Rec;
 use audit_core::AuditPlan;
+use record_kinds::Rec;
 use sat_base::{Moment, NoMemory, SegId, Serial, kinds};
 
 // What is audited.

@@ -1,12 +1,12 @@
 // Kind 12: a node that didn't answer an audit.
 ghost use Rattle.std.specs.Prelude.{◌≡◌, refl};
 ghost use Rattle.sat_base.specs.declared.kinds.TheConstants as kinds;
-ghost use Rattle.record_rows.specs.declared.records.Rec.TheVariants as rec;
+ghost use Rattle.record_kinds.specs.declared.rec.Rec.TheVariants as rec;
 ghost use Rattle.record_rows.specs.Laws.Kinds.{the_containment};
 
 use crate::coded::Spelled;
 use crate::kind::Kind;
-use crate::records::Rec;
+use record_kinds::Rec;
 use sat_base::{Containment, NoMemory, NodeId, SegId, kinds};
 
 type Body = (SegId, (u8, (u64, ([u8; 32], u8))));

@@ -1,12 +1,12 @@
 // Kind 14: the open plan of an exit.
 ghost use Rattle.std.specs.Prelude.{◌≡◌, refl};
 ghost use Rattle.sat_base.specs.declared.kinds.TheConstants as kinds;
-ghost use Rattle.record_rows.specs.declared.records.Rec.TheVariants as rec;
+ghost use Rattle.record_kinds.specs.declared.rec.Rec.TheVariants as rec;
 ghost use Rattle.record_rows.specs.Laws.Kinds.{the_exit_plan};
 
 use crate::coded::Spelled;
 use crate::kind::Kind;
-use crate::records::Rec;
+use record_kinds::Rec;
 use repair_core::{ExitPlan, RepairPlan};
 use sat_base::{At, NoMemory, kinds};
 

@@ -1,13 +1,13 @@
 // Kind 15: when a node left.
 ghost use Rattle.std.specs.Prelude.{◌≡◌, refl};
 ghost use Rattle.sat_base.specs.declared.kinds.TheConstants as kinds;
-ghost use Rattle.record_rows.specs.declared.records.Rec.TheVariants as rec;
+ghost use Rattle.record_kinds.specs.declared.rec.Rec.TheVariants as rec;
 ghost use Rattle.record_rows.specs.Laws.Kinds.{the_left};
 
 use crate::coded::Spelled;
 use crate::kind::Kind;
-use crate::records::Rec;
 use node_registry::Left;
+use record_kinds::Rec;
 use sat_base::{Moment, NoMemory, NodeId, kinds};
 
 impl Kind for Left {

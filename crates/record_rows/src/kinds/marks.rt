@@ -2,14 +2,14 @@
 ghost use Rattle.std.specs.Prelude.{◌≡◌, [], refl};
 ghost use Rattle.std.proofs.Common.{ap, rules};
 ghost use Rattle.sat_base.specs.declared.kinds.TheConstants as kinds;
-ghost use Rattle.record_rows.specs.declared.records.Rec.TheVariants as rec;
+ghost use Rattle.record_kinds.specs.declared.rec.Rec.TheVariants as rec;
 ghost use Rattle.record_rows.specs.Numbers.{be64};
 ghost use Rattle.record_rows.specs.Laws.Apart.{four_first};
 ghost use Rattle.record_rows.specs.Laws.Kinds.{the_marks};
 
 use crate::coded::Spelled;
 use crate::kind::Kind;
-use crate::records::Rec;
+use record_kinds::Rec;
 use sat_base::{Hour, Marks, Moment, Month, NoMemory, kinds};
 
 // How far time and the numbers have come.

@@ -2,7 +2,7 @@
 ghost use Rattle.std.specs.Prelude.{◌≡◌, ◌≤◌, ◌++◌, length, refl};
 ghost use Rattle.std.proofs.Common.{sym};
 ghost use Rattle.sat_base.specs.declared.kinds.TheConstants as kinds;
-ghost use Rattle.record_rows.specs.declared.records.Rec.TheVariants as rec;
+ghost use Rattle.record_kinds.specs.declared.rec.Rec.TheVariants as rec;
 ghost use Rattle.record_rows.specs.Plans.{repair_plan_body};
 ghost use Rattle.record_rows.specs.Fits.{RepairPlanFits, IsRepairShort};
 ghost use Rattle.record_rows.specs.Numbers.{be64};
@@ -14,7 +14,7 @@ use crate::coded::{Coded, Spelled, Unread};
 use crate::kind::Kind;
 use crate::made::{Made, take_made};
 use crate::places::Places;
-use crate::records::Rec;
+use record_kinds::Rec;
 use repair_core::RepairPlan;
 use sat_base::{Moment, NoMemory, SegId, Serial, kinds};
 use std::alloc::Global;

@@ -1,13 +1,13 @@
 // Kind 5: a segment.
 ghost use Rattle.std.specs.Prelude.{◌≡◌, refl};
 ghost use Rattle.sat_base.specs.declared.kinds.TheConstants as kinds;
-ghost use Rattle.record_rows.specs.declared.records.Rec.TheVariants as rec;
+ghost use Rattle.record_kinds.specs.declared.rec.Rec.TheVariants as rec;
 ghost use Rattle.record_rows.specs.Laws.Kinds.{the_segment};
 
 use crate::coded::Spelled;
 use crate::kind::Kind;
 use crate::places::Places;
-use crate::records::Rec;
+use record_kinds::Rec;
 use sat_base::{CustomerId, NoMemory, SegId, kinds};
 use segment_core::Segment;
 

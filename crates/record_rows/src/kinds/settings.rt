@@ -3,7 +3,7 @@ ghost use Rattle.std.specs.Prelude.{◌≡◌, ◌↔◌, ◌≤◌, ◌++◌, l
 ghost use Rattle.std.proofs.Common.{sym};
 ghost use Rattle.sat_base.specs.declared.kinds.TheConstants as kinds;
 ghost use Rattle.sat_base.specs.declared.limits.TheConstants as limits;
-ghost use Rattle.record_rows.specs.declared.records.Rec.TheVariants as rec;
+ghost use Rattle.record_kinds.specs.declared.rec.Rec.TheVariants as rec;
 ghost use Rattle.record_rows.specs.Settings.{scheme_bytes, settings_body};
 ghost use Rattle.record_rows.specs.Fits.{SettingsFit, IsVetting};
 ghost use Rattle.record_rows.specs.Numbers.{be8, be16};
@@ -11,10 +11,12 @@ ghost use Rattle.record_rows.specs.Laws.Apart.{four_first};
 ghost use Rattle.record_rows.specs.Laws.Kinds.{the_settings};
 ghost use Rattle.record_rows.specs.Laws.Records.{settings_apart, some_settings};
 
+pub(crate) mod version1;
+
 use crate::coded::{Coded, Spelled, Unread};
 use crate::kind::Kind;
 use crate::made::{Made, take_made};
-use crate::records::Rec;
+use record_kinds::Rec;
 use sat_base::{Caps, Month, NoMemory, Scheme, Settings, kinds, limits};
 use std::alloc::Global;
 

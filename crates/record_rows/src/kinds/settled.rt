@@ -1,13 +1,13 @@
 // Kind 6: a settled order.
 ghost use Rattle.std.specs.Prelude.{◌≡◌, refl};
 ghost use Rattle.sat_base.specs.declared.kinds.TheConstants as kinds;
-ghost use Rattle.record_rows.specs.declared.records.Rec.TheVariants as rec;
+ghost use Rattle.record_kinds.specs.declared.rec.Rec.TheVariants as rec;
 ghost use Rattle.record_rows.specs.Laws.Kinds.{the_settled, place_rank};
 
 use crate::coded::Spelled;
 use crate::kind::Kind;
-use crate::records::Rec;
 use order_limits::Action;
+use record_kinds::Rec;
 use sat_base::{Moment, NoMemory, NodeId, Serial, kinds};
 use settlement::SettledRow;
 

@@ -2,7 +2,7 @@
 ghost use Rattle.std.specs.Prelude.{◌≡◌, ◌++◌, refl};
 ghost use Rattle.std.proofs.Common.{ap};
 ghost use Rattle.sat_base.specs.declared.kinds.TheConstants as kinds;
-ghost use Rattle.record_rows.specs.declared.records.Rec.TheVariants as rec;
+ghost use Rattle.record_kinds.specs.declared.rec.Rec.TheVariants as rec;
 ghost use Rattle.record_rows.specs.Numbers.{be8, be32};
 ghost use Rattle.record_rows.specs.Bodies.{sums_bytes, parts_bytes};
 ghost use Rattle.record_rows.specs.Laws.Apart.{four_first};
@@ -10,7 +10,7 @@ ghost use Rattle.record_rows.specs.Laws.Kinds.{the_statement};
 
 use crate::coded::Spelled;
 use crate::kind::Kind;
-use crate::records::Rec;
+use record_kinds::Rec;
 use sat_base::{Month, NoMemory, NodeId, kinds};
 use tally_payout::{Parts, Statement, Sums};
 

@@ -1,12 +1,12 @@
 // Kind 7: what a node keeps in an hour.
 ghost use Rattle.std.specs.Prelude.{◌≡◌, refl};
 ghost use Rattle.sat_base.specs.declared.kinds.TheConstants as kinds;
-ghost use Rattle.record_rows.specs.declared.records.Rec.TheVariants as rec;
+ghost use Rattle.record_kinds.specs.declared.rec.Rec.TheVariants as rec;
 ghost use Rattle.record_rows.specs.Laws.Kinds.{the_tally};
 
 use crate::coded::Spelled;
 use crate::kind::Kind;
-use crate::records::Rec;
+use record_kinds::Rec;
 use sat_base::{Hour, NoMemory, NodeId, kinds};
 use tally_payout::Tally;
 

@@ -2,12 +2,12 @@
 ghost use Rattle.std.specs.Prelude.{◌≡◌, refl};
 ghost use Rattle.std.proofs.Common.{rules};
 ghost use Rattle.sat_base.specs.declared.kinds.TheConstants as kinds;
-ghost use Rattle.record_rows.specs.declared.records.Rec.TheVariants as rec;
+ghost use Rattle.record_kinds.specs.declared.rec.Rec.TheVariants as rec;
 ghost use Rattle.record_rows.specs.Laws.Kinds.{the_tariff};
 
 use crate::coded::Spelled;
 use crate::kind::Kind;
-use crate::records::Rec;
+use record_kinds::Rec;
 use sat_base::{Month, NoMemory, Rates, Tariff, kinds};
 
 impl Kind for Tariff {

@@ -2,7 +2,7 @@
 use super::files::{Done, Work, commit, keeper_of, over_file, report, use_file};
 use anyhow::{Result, bail};
 use machine_calls::Reply;
-use sat_base::{Change, Keeper, Row};
+use sat_base::{Change, Keeper, Row, limits};
 use sqlite::{Alter, Connection};
 use std::alloc::Global;
 use std::time::Instant;
@@ -10,9 +10,6 @@ use trial_lines::{BoundedBook, row_of_record};
 
 /// The settled orders of a commit while a store is filled.
 const FILL: u64 = 1000;
-
-/// The entries that a book has room for, and the most orders that are settled in one run.
-const TERM: u64 = 65_536;
 
 /// The secret is 32 zeros, and the one node has number 1.
 const STORE: [&str; 4] = [
@@ -80,7 +77,7 @@ pub(crate) fn fill(rt: &HostRuntime, path: &str, count: u64) -> Result<()> {
 }
 
 fn book_of<K: Keeper>(alloc: Global, keeper: K) -> Result<BoundedBook<K>> {
-    match BoundedBook::open(alloc, keeper, TERM) {
+    match BoundedBook::open(alloc, keeper, limits::TERM) {
         Ok(book) => Ok(book),
         Err(_) => bail!("no book"),
     }

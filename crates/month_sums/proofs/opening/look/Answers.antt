@@ -20,15 +20,15 @@ returns-then-has_joined-clause-pass c l keys nodes j pots month front at has =
     let node = c.args.node.now in
     let place = month_place c.args.month.0 node.id.0 in
     let joined : has_joined c.args.month.0 node ≡ true = sym c.has_joined.ensures ∙ c.if-has_joined.true in
-    let go = go-by l c.args.month.0 nodes c.args.rows.now c.args.sums.now c.args.left.now.rows c.args.rates.now month c.args.i j node c.own_sums-own.result c.args.pot pots front at has joined c.own_sums-own.ensures.own in
-    let low = node-low l c.args.month.0 nodes c.args.rows.now c.args.sums.now c.args.left.now.rows c.args.rates.now month j node at in
-    ap (λ (b : Bool). walk (is_good c.args.cap l) c.args.i ((if b then place ∷ [] else []) ++ keys) (drop c.args.i c.args.rows.now)) joined
+    let go = go-by l c.args.month.0 nodes c.args.stated.now.rows.now c.args.stated.now.sums.now c.args.stated.now.left.now.rows c.args.rates.now month c.args.i j node c.own_sums-own.result c.args.pot pots front at has joined c.own_sums-own.ensures.own in
+    let low = node-low l c.args.month.0 nodes c.args.stated.now.rows.now c.args.stated.now.sums.now c.args.stated.now.left.now.rows c.args.rates.now month j node at in
+    ap (λ (b : Bool). walk (is_good c.args.stated.now.cap l) c.args.i ((if b then place ∷ [] else []) ++ keys) (drop c.args.i c.args.stated.now.rows.now)) joined
     ∙ c.test_one.ensures.pass l keys go low month.low
 
 pub returns-then-has_joined-clause-next : goal.returns-then-has_joined-clause-next
 returns-then-has_joined-clause-next c l n nodes j pots month front at has is_next =
     let node = c.args.node.now in
     let joined : has_joined c.args.month.0 node ≡ true = sym c.has_joined.ensures ∙ c.if-has_joined.true in
-    let go = go-by l c.args.month.0 nodes c.args.rows.now c.args.sums.now c.args.left.now.rows c.args.rates.now month c.args.i j node c.own_sums-own.result c.args.pot pots front at has joined c.own_sums-own.ensures.own in
-    let low = node-low l c.args.month.0 nodes c.args.rows.now c.args.sums.now c.args.left.now.rows c.args.rates.now month j node at in
-    subst (λ (b : Bool). LooksOn b l c.args.rows.now (month_place c.args.month.0 node.id.0) c.args.i n) (sym joined) (c.test_one.ensures.next l n go low month.low is_next)
+    let go = go-by l c.args.month.0 nodes c.args.stated.now.rows.now c.args.stated.now.sums.now c.args.stated.now.left.now.rows c.args.rates.now month c.args.i j node c.own_sums-own.result c.args.pot pots front at has joined c.own_sums-own.ensures.own in
+    let low = node-low l c.args.month.0 nodes c.args.stated.now.rows.now c.args.stated.now.sums.now c.args.stated.now.left.now.rows c.args.rates.now month j node at in
+    subst (λ (b : Bool). LooksOn b l c.args.stated.now.rows.now (month_place c.args.month.0 node.id.0) c.args.i n) (sym joined) (c.test_one.ensures.next l n go low month.low is_next)

@@ -11,8 +11,8 @@ use Rattle.month_sums.proofs.opening.test_month.Goals as goal
 pub returns-in-Broken-clause-pass : goal.returns-in-Broken-clause-pass
 returns-in-Broken-clause-pass c l keys month front =
     let nodes = c.args.nodes.now in
-    let rows = c.args.rows.now in
-    let good = is_good c.args.cap l in
+    let rows = c.args.stated.now.rows.now in
+    let good = is_good c.args.stated.now.cap l in
     let node = c.index-nodes-j.result in
     let j = c.loop-j.j in
     let i = c.loop-j.i in
@@ -31,7 +31,7 @@ returns-in-Broken-clause-pass c l keys month front =
 pub loop-j-preserved : goal.loop-j-preserved
 loop-j-preserved c =
     let nodes = c.args.nodes.now in
-    let rows = c.args.rows.now in
+    let rows = c.args.stated.now.rows.now in
     let node = c.index-nodes-j.result in
     let j = c.loop-j.j in
     let i = c.loop-j.i in
@@ -47,11 +47,11 @@ loop-j-preserved c =
       front = λ b month front.
           let front_i = c.loop-j.invariant.front b month front in
           subst (λ (ps : List ℕ). Front b nodes rows n ps) (sym c.advance.ensures)
-          (front-next b c.args.month.0 nodes rows c.args.sums.now c.args.left.now.rows c.args.rates.now month i j node (get_or pots j 0) pots front_i at has n (has_joined c.args.month.0 node)
+          (front-next b c.args.month.0 nodes rows c.args.stated.now.sums.now c.args.stated.now.left.now.rows c.args.rates.now month i j node (get_or pots j 0) pots front_i at has n (has_joined c.args.month.0 node)
           (c.look-found.ensures.next b n nodes j pots month front_i at has c.in-Next.is));
       pass = λ b keys month front.
           let front_i = c.loop-j.invariant.front b month front in
-          let good = is_good c.args.cap b in
+          let good = is_good c.args.stated.now.cap b in
           let later = due_in c.args.month.0 (drop (j + 1) nodes) ++ keys in
           c.loop-j.invariant.pass b keys month front
           ∙ (ap (λ (ks : List ℕ). walk good i ks (drop i rows)) (due-rest c.args.month.0 nodes keys j node at)

@@ -5,9 +5,9 @@ use Rattle.sat_base.specs.Scheme.{IsScheme}
 use Rattle.machine_step.specs.Stored.{share_of}
 use Rattle.machine_step.specs.Tables.{setup_of}
 use Rattle.pay_tables.specs.InStep.{IsShort}
-use Rattle.pay_tables.proofs.RowFacts.{each-take, sum-got}
+use Rattle.pay_tables.proofs.RowFacts.{sum-got}
 use Rattle.pay_tables.proofs.Segments.{amount-room}
-use Rattle.month_sums.proofs.Counted.{take-most}
+use Rattle.month_sums.proofs.Counted.{take-most, each-take}
 use Rattle.month_sums.proofs.Ready.{each-got}
 use Rattle.pay_tables.proofs.opening.bytes_stored.Goals as goal
 

@@ -9,14 +9,14 @@ pub returns-in_err-put-clause-crash : goal.returns-in_err-put-clause-crash
 returns-in_err-put-clause-crash g c =
     let k = g.K.Keeper in
     let look = c.look.ensures in
-    left_through k.is_clean k.is_open k.tells k.rows k.leaves c.args.setup.now c.args.keeper.now c.look.new.keeper c.put.new.keeper
+    left_through c.args.setup.now (k.about c.args.keeper.now) (k.about c.look.new.keeper) (k.about c.put.new.keeper)
     c.put.ensures.clean look.crash look.opened look.told look.kept c.put.ensures.crash
 
 pub returns-clause-crash : goal.returns-clause-crash
 returns-clause-crash g c =
     let k = g.K.Keeper in
     let look = c.look.ensures in
-    left_through k.is_clean k.is_open k.tells k.rows k.leaves c.args.setup.now c.args.keeper.now c.look.new.keeper c.put.new.keeper
+    left_through c.args.setup.now (k.about c.args.keeper.now) (k.about c.look.new.keeper) (k.about c.put.new.keeper)
     c.put.ensures.clean look.crash look.opened look.told look.kept c.put.ensures.crash
 
 pub returns-clause-made : goal.returns-clause-made
@@ -36,7 +36,7 @@ returns-clause-made g c =
       is_key = c.operator.ensures ∙ ap operator_key c.new.ensures;
       kept = λ t.
           let was_open = c.put.ensures.opened t.0 in
-          let made = made_of c.args.setup.now c.in_ok-secret.secret c.of-now.result done.0 (g.K.Keeper.rows c.args.keeper.now) (c.in_ok-look.ensures.none was_open t.1) in
+          let made = made_of c.args.setup.now c.in_ok-secret.secret c.of-now.result done.0 (g.K.Keeper.about c.args.keeper.now).rows (c.in_ok-look.ensures.none was_open t.1) in
           let is = done.2 t.0 (c.look.ensures.told was_open t.1)
           ∙ ap (changed (puts (new_rows c.args.setup.now c.in_ok-secret.secret c.of-now.result done.0))) (c.look.ensures.kept was_open t.1) in
           subst (λ (m : Rows). AreThe m (new_rows c.args.setup.now c.in_ok-secret.secret c.of-now.result done.0)) (sym is) made;

@@ -42,4 +42,4 @@ returns-clause-closed g c =
 pub returns-clause-keeps : goal.returns-clause-keeps
 returns-clause-keeps g c =
     let same = origin_same c.in-Ok.made.0 (origin_of c.args.book) (origin_of c.close-book.result) c.in-Ok.made.1 c.work_all-pass.result.pass c.close-book.ensures.base c.work_all-pass.ensures.gathered.base_is c.in-Ok.ensures.first in
-    keeps_same g.K.Keeper.is_clean g.K.Keeper.is_open g.K.Keeper.tells g.K.Keeper.rows g.K.Keeper.leaves (origin_of c.args.book) (origin_of c.close-book.result) _ c.close-book.result.history _ same (sym c.close-keeper.ensures.history) c.close-keeper.ensures.keeps
+    keeps_same g.K.Keeper.about (origin_of c.args.book) (origin_of c.close-book.result) _ c.close-book.result.history _ same (sym c.close-keeper.ensures.history) c.close-keeper.ensures.keeps

@@ -3,5 +3,5 @@ use Rattle.satellite_cli.proofs.serving.idle_term.Goals as goal
 
 pub returns-clause-stands : goal.returns-clause-stands
 returns-clause-stands g c =
-    stands_of g.K.Keeper.faults g.K.Keeper.is_clean g.K.Keeper.is_open g.K.Keeper.tells g.K.Keeper.rows g.K.Keeper.leaves c.args.book c.close-keeper.result.0 c.args.book.history c.close-keeper.result.2.items
+    stands_of g.K.Keeper.about c.args.book c.close-keeper.result.0 c.args.book.history c.close-keeper.result.2.items
     c.close-keeper.ensures.history c.close-keeper.ensures.spell c.close-keeper.ensures.once c.close-keeper.ensures.pays c.close-keeper.ensures.closed c.close-keeper.ensures.keeps c.close-keeper.ensures.shown

@@ -15,13 +15,13 @@ returns-in-Ok-serve_term-clause-term g c =
     let after = sym (λ i. view (back i).posts.items (back i).audit (back i).repair (back i).tally) in (
       c.in-Ok.ready.book,
       c.in-Ok.ensures.opened,
-      inl (term_of g.K.Keeper.faults g.K.Keeper.is_clean g.K.Keeper.is_open g.K.Keeper.tells g.K.Keeper.rows g.K.Keeper.leaves _ _ _ c.in-Ok.ready.book _ _ c.in-Ok-serve_term.served.ends _ _ _ _ _ _
+      inl (term_of g.K.Keeper.about _ _ _ c.in-Ok.ready.book _ _ c.in-Ok-serve_term.served.ends _ _ _ _ _ _
           c.keys_of-keys.ensures (moved_clauses _ _ _ _ _ _ _ _ _ before after s.clauses) s.spell s.once s.pays s.closed s.keeps s.faults c.in-Ok.ensures.quiet c.finish-status.ensures),
     )
 
 pub returns-in-Err-tools_of-clause-term : goal.returns-in-Err-tools_of-clause-term
 returns-in-Err-tools_of-clause-term g c =
-    idle_of g.K.Keeper.faults g.K.Keeper.is_clean g.K.Keeper.is_open g.K.Keeper.tells g.K.Keeper.rows g.K.Keeper.leaves
+    idle_of g.K.Keeper.about
     _ _ _ _ _ c.in-Ok.ready.book _ _ _ _ _ _ _ _ _ c.in-Ok.ensures.opened c.in-Ok.ensures.quiet refl refl c.idle.ensures.idle c.idle.ensures.devices
 
 pub returns-in-Err-serve_term-clause-term : goal.returns-in-Err-serve_term-clause-term
@@ -31,5 +31,5 @@ returns-in-Err-serve_term-clause-term g c =
     let back = c.devices_of-devices.ensures ∙ came_back _ _ _ _ _ _ c.args.devices.tally _ _ ((λ i. (same.1 i).posts) ∙ made.posts) ((λ i. (same.1 i).kits.audit.kit) ∙ (λ i. (made.audit i).kit))
     ((λ i. (same.1 i).kits.repair.kit) ∙ (λ i. (made.repair i).kit)) ((λ i. (same.1 i).kits.tally) ∙ made.tally) made.spare in
     let idle = c.idle-in-Err-serve_term.ensures in
-    idle_of g.K.Keeper.faults g.K.Keeper.is_clean g.K.Keeper.is_open g.K.Keeper.tells g.K.Keeper.rows g.K.Keeper.leaves
+    idle_of g.K.Keeper.about
     _ _ _ _ _ c.in-Ok.ready.book _ _ _ _ _ _ _ _ _ c.in-Ok.ensures.opened c.in-Ok.ensures.quiet same.0 (λ i. length (back i).posts.items) idle.idle (idle.devices ∙ back)

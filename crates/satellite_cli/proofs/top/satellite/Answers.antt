@@ -37,7 +37,7 @@ returns-in-Ok-Init-clause-crash g c =
     } in
     λ store is clean m left. elim (c.init_world.ensures.crash clean m left) [
       | inl before ↦ inl before
-      | inr made ↦ inr (setup, made.0, made.1)
+      | inr made ↦ inr (setup, is_asked _ _ _ _ _ _ _ c.args.line.now store (rw c.in-Ok-Init.field-0-is at c.in-Ok-Init.ensures.command) is, made.0, made.1)
     ]
 
 pub returns-in-Ok-Serve-clause-once : goal.returns-in-Ok-Serve-clause-once
@@ -50,7 +50,7 @@ returns-in-Ok-Serve-clause-serve g c = λ server is.
 
 pub returns-in-Ok-Serve-clause-serve_complete : goal.returns-in-Ok-Serve-clause-serve_complete
 returns-in-Ok-Serve-clause-serve_complete g c = λ server is up told sound no_fault no_cut none no_audit no_repair no_full.
-    serves_well g.K.Keeper.faults g.K.Keeper.is_clean g.K.Keeper.is_open g.K.Keeper.tells g.K.Keeper.rows g.K.Keeper.leaves _ (λ b. (start_of b.opening).setup.secret) _ _ _ _ _ _ _ _ _ _
+    serves_well g.K.Keeper.about _ (λ b. (start_of b.opening).setup.secret) _ _ _ _ _ _ _ _ _ _
     c.serve_world.ensures.closed c.serve_world.ensures.term up told sound no_fault no_cut none (no_audit, no_repair) no_full
 
 pub returns-in-Ok-Serve-clause-others : goal.returns-in-Ok-Serve-clause-others
@@ -66,7 +66,7 @@ returns-in-Ok-Sheet-clause-sheet g c = λ asked is.
 
 pub returns-in-Ok-Sheet-clause-sheet_complete : goal.returns-in-Ok-Sheet-clause-sheet_complete
 returns-in-Ok-Sheet-clause-sheet_complete g c = λ asked is up told sound no_fault no_cut closed.
-    sheets_well g.K.Keeper.faults g.K.Keeper.is_clean g.K.Keeper.is_open g.K.Keeper.tells g.K.Keeper.rows g.K.Keeper.leaves _ _ _ _ _ _
+    sheets_well g.K.Keeper.about _ _ _ _ _ _
     c.sheet_world.ensures.printed up told sound no_fault no_cut closed
 
 pub returns-in-Ok-Drill-clause-once : goal.returns-in-Ok-Drill-clause-once

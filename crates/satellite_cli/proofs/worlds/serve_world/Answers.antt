@@ -2,7 +2,7 @@ use Rattle.satellite_cli.proofs.Terms.{came_back_as}
 use Rattle.satellite_cli.proofs.worlds.serve_world.Goals as goal
 
 pub returns-clause-term : goal.returns-clause-term
-returns-clause-term g c = rw c.code.ensures (came_back_as g.K.Keeper.faults g.K.Keeper.is_clean g.K.Keeper.is_open g.K.Keeper.tells g.K.Keeper.rows g.K.Keeper.leaves
+returns-clause-term g c = rw c.code.ensures (came_back_as g.K.Keeper.about
     _ _ _ _ _ _ _ _ _ _ _ _ (λ same. λ i. record c.args.world {
       console = c.serve-run.new.console;
       keeper = c.serve-run.result.keeper;

@@ -1,0 +1,5 @@
+pub mod Views
+pub mod Performing
+pub mod Links
+pub mod Offering
+pub mod Runs

@@ -1,0 +1,9 @@
+pub mod AnswerLemmas
+pub mod AskLemmas
+pub mod DemandLemmas
+pub mod OfferingLemmas
+pub mod PathLemmas
+pub mod ReadLemmas
+pub mod RequestLemmas
+pub mod SettlementLemmas
+pub mod ValueLemmas
