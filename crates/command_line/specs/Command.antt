@@ -12,8 +12,9 @@ use Rattle.command_line.specs.declared.command.Command.TheVariants as commands
 use Rattle.command_line.specs.declared.names.Name.{Name}
 use Rattle.command_line.specs.declared.names.Name.TheVariants as names
 use Rattle.command_line.specs.Names.{name_in}
-use Rattle.command_line.specs.Pairs.{is_form, value_of}
-use Rattle.command_line.specs.Values.{month_of, number_or, number_within, secret_of, secret_or_none}
+use Rattle.word_pairs.specs.Pairs.{is_form, value_of}
+use Rattle.word_pairs.specs.Values.{number_or, number_within, secret_of, secret_or_none}
+use Rattle.command_line.specs.Values.{month_of}
 
 -- ---- what is asked for, in plain numbers
 

@@ -1,4 +1,3 @@
-pub mod Pairs
 pub mod Values
 pub mod Names
 pub mod Command

@@ -8,12 +8,11 @@ ghost use Rattle.sat_base.specs.Limits.{IsMonthWithin};
 use crate::bounds;
 use crate::init::{InitWords, init_in};
 use crate::names::{Name, name_of};
-use crate::pairs::{has_form, value};
 use crate::serve::{ServeWords, serve_in};
 use crate::sheet::{SheetWords, sheet_in};
-use crate::values::{number_in, number_or_in, secret_in};
 use sat_base::{Bytes, Caps, Items, Line, Month, Rates, Scheme, limits};
 use std::alloc::Global;
+use word_pairs::{has_form, number_in, number_or_in, secret_in, value};
 
 /// What the words ask for. A store is the name of its file.
 #[derive(Debug, Drop)]

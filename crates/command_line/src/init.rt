@@ -5,9 +5,8 @@ ghost use Rattle.command_line.specs.Words.{choices_said, init_said};
 ghost use Rattle.command_line.specs.Command.{cap_of, pieces_of, rate_of};
 
 use crate::bounds;
-use crate::pairs::{has_form, value};
-use crate::values::{number_in, number_or_in, secret_or_none_in};
 use sat_base::{Caps, Line, Rates, Scheme, limits};
+use word_pairs::{has_form, number_in, number_or_in, secret_or_none_in, value};
 
 /// What `init` is asked for.
 #[derive(Clone, Copy, Debug)]

@@ -4,9 +4,8 @@ ghost use Rattle.command_line.specs.Command.{serve_of};
 ghost use Rattle.command_line.specs.Words.{AreWithin, serve_said};
 
 use crate::bounds;
-use crate::pairs::{has_form, value};
-use crate::values::{number_in, number_or_in};
 use sat_base::{Line, limits};
+use word_pairs::{has_form, number_in, number_or_in, value};
 
 /// What `serve` is asked for.
 #[derive(Clone, Copy, Debug)]

@@ -4,9 +4,9 @@ ghost use Rattle.sat_base.specs.Limits.{IsMonthWithin};
 ghost use Rattle.command_line.specs.Command.{sheet_of};
 ghost use Rattle.command_line.specs.Words.{sheet_said};
 
-use crate::pairs::{has_form, value};
 use crate::values::month_in;
 use sat_base::{Line, Month};
+use word_pairs::{has_form, value};
 
 /// What `sheet` is asked for.
 #[derive(Clone, Copy, Debug)]

@@ -4,11 +4,14 @@
 //!
 //! - **Console**: [`Console`] over standard input and output. A call that a signal interrupts is made again. A write that
 //!   takes no byte of a piece counts as failed.
-//! - **Lanes**: [`TcpLane`], the connections that come to a port of 127.0.0.1, each a [`TcpLink`]. It takes and reads up to
-//!   4096 of them side by side while it waits, so a client that says nothing holds nobody: a link is handed out once its
-//!   request is decided, or its client sends no more. What a client doesn't take of its answer is written in the same way.
+//! - **Lanes**: [`TcpLane`], the connections that come to a port of 127.0.0.1, or of another address that is named, each a
+//!   [`TcpLink`]. It takes and reads up to 4096 of them side by side while it waits, so a client that says nothing holds
+//!   nobody: a link is handed out once its request is decided, or its client sends no more. What a client doesn't take of its
+//!   answer is written in the same way.
 //! - **Time and chance**: [`SystemClock`], which gives its last moment again where the machine's can't be read,
 //!   [`SleepTicks`], and [`MachineWords`] from the system's source of random numbers.
+//! - **For other devices**: [`TimeLimit`] over several calls; [`read_once`] and [`write_once`], which make an interrupted call
+//!   again.
 //!
 //! A call that is answered as failed raises its object's count by one, and no other answer does.
 //!
@@ -42,9 +45,11 @@ mod whole;
 
 pub use console::Console;
 pub use machine_words::MachineWords;
+pub use once::{read_once, write_once};
 pub use room::Room;
 pub use sleep_ticks::SleepTicks;
 pub use system_clock::SystemClock;
 pub use tcp_lane::TcpLane;
 pub use tcp_link::TcpLink;
+pub use time_limit::TimeLimit;
 pub use watched::Watched;

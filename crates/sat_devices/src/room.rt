@@ -1,7 +1,8 @@
 // How many bytes a lane keeps.
-ghost use Rattle.std.specs.Prelude.{◌≡◌, ◌-◌, ◌^◌};
+ghost use Rattle.std.specs.Prelude.{◌≡◌, ◌+◌, ◌-◌, ◌^◌};
 
-use http_parts::MAX_BODY;
+use http_parts::{MAX_BODY, MAX_HEAD};
+use sat_base::limits::PIECE;
 
 /// How many bytes a lane keeps for its connections.
 #[derive(Clone, Copy, Debug, PartialEq, Eq)]
@@ -24,6 +25,19 @@ impl Room {
             body: MAX_BODY,
             answer: 1_048_576,
             all: usize::MAX,
+        }
+    }
+
+    /// Room for requests whose bodies are pieces, of 4 MiB at most, and for answers of such a piece and a head of 8192 bytes.
+    /// All have 64 MiB: fifteen of the longest puts come side by side before one makes room for another, and clients that only
+    /// begin such puts, however many, don't take the memory of a small machine.
+    pub fn for_pieces() -> Room
+        ensures { result ≡ record { body = PIECE; answer = PIECE + MAX_HEAD; all = 67108864 } }
+    {
+        Room {
+            body: PIECE,
+            answer: PIECE as usize + MAX_HEAD,
+            all: 67_108_864,
         }
     }
 }

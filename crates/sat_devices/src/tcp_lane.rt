@@ -14,9 +14,9 @@ use std::marker::Model;
 use std::net::{Ipv4Addr, Net, SocketAddr, SocketAddrV4};
 use std::time::Clock;
 
-/// The connections that come to a port of 127.0.0.1, one at a time, each once its request is decided or its client sends no
-/// more. Contracts see the port, how many were handed out, and how many waits have failed, both up to 2^64 - 1, and whether
-/// none comes any more.
+/// The connections that come to a port of 127.0.0.1, or of another address, one at a time, each once its request is decided or
+/// its client sends no more. Contracts see the port, how many were handed out, and how many waits have failed, both up to
+/// 2^64 - 1, and whether none comes any more.
 ///
 /// Once a wait has failed, its service is over, or it was shut, it listens no more, so that clients are refused, and no
 /// connection comes.
@@ -52,7 +52,15 @@ impl<R: Clock + Copy + Net + AllocGlobal> TcpLane<R> {
         ensures fresh { IfOk result (λ l. (l.given ≡ 0) × (l.over ≡ false) × (l.faults ≡ 0)) }
         ensures port { IfOk result (λ l. 0 < port → l.port ≡ port) }
     {
-        let at = SocketAddr::V4(SocketAddrV4::new(Ipv4Addr::LOCALHOST, port));
+        TcpLane::listen_at(rt, Ipv4Addr::LOCALHOST, port, room)
+    }
+
+    /// A lane as [`TcpLane::listen_with`] gives it, at this address of the machine, or at all where it is 0.0.0.0.
+    pub fn listen_at(rt: R, addr: Ipv4Addr, port: u16, room: Room) -> io::Result<TcpLane<R>>
+        ensures fresh { IfOk result (λ l. (l.given ≡ 0) × (l.over ≡ false) × (l.faults ≡ 0)) }
+        ensures port { IfOk result (λ l. 0 < port → l.port ≡ port) }
+    {
+        let at = SocketAddr::V4(SocketAddrV4::new(addr, port));
         let listener = TcpListener::bind(&rt, at)?;
         let at = if port == 0 {
             listener.local_addr()?.port()

@@ -6,13 +6,13 @@ use std::time::{Clock, Duration, Instant};
 
 /// The moment at which the time of several calls is up. Where the clock can't be read it is up, too.
 #[derive(Clone, Copy)]
-pub(crate) struct TimeLimit {
+pub struct TimeLimit {
     end: Option<Instant>,
 }
 
 impl TimeLimit {
     /// So many seconds from now.
-    pub(crate) fn after(clock: &impl Clock, seconds: u64) -> TimeLimit {
+    pub fn after(clock: &impl Clock, seconds: u64) -> TimeLimit {
         let now = Instant::now(clock).ok();
         TimeLimit {
             end: now.and_then(|now| now.checked_add(Duration::from_secs(seconds))),
@@ -20,7 +20,7 @@ impl TimeLimit {
     }
 
     /// How long a call may take: what is left, and at most so many seconds. `None` once the time is up.
-    pub(crate) fn left(&self, clock: &impl Clock, seconds: u64) -> Option<Duration>
+    pub fn left(&self, clock: &impl Clock, seconds: u64) -> Option<Duration>
         ensures { IfSome result (λ time. as_nanos time ≤ seconds * 1_000_000_000) }
     {
         let now = Instant::now(clock).ok()?;
@@ -32,7 +32,7 @@ impl TimeLimit {
     }
 
     /// Whether the time is up.
-    pub(crate) fn is_up(&self, clock: &impl Clock) -> bool {
+    pub fn is_up(&self, clock: &impl Clock) -> bool {
         self.left(clock, 1).is_none()
     }
 }

@@ -1,7 +1,7 @@
 // The devices of the program.
 ghost use Rattle.std.specs.Prelude.{◌≡◌, ◌≤◌, length, IfOk};
 
-use crate::StartErr;
+use program_start::StartErr;
 use sat_base::{
     Clock as Times, Gate, Keeper, Lane, Line, Link, NoMemory, Nodes, OpenGate, Service, Ticks,
     Words,
@@ -9,7 +9,6 @@ use sat_base::{
 use sat_devices::{MachineWords, SleepTicks, SystemClock, TcpLane};
 use satellite_cli::{Ended, Kit, Post, World, satellite};
 use std::alloc::Global;
-use std::io::ErrorKind;
 use std::sync::Wait;
 use std::thread::Threads;
 
@@ -65,12 +64,7 @@ pub fn bound(
         let port = port.saturating_add(number);
         let lane = match TcpLane::listen(rt, port) {
             Ok(lane) => lane.served(service.share()?),
-            Err(e) if e.kind() == ErrorKind::OutOfMemory => return Err(StartErr::NoMemory),
-            Err(e) => {
-                // It stands whether that can be told or not.
-                let _ = eprintln!(rt; "satellite: port {port}: {e}");
-                return Err(StartErr::Start);
-            }
+            Err(e) => return Err(StartErr::of_port(&rt, "satellite", port, &e)),
         };
         let post = Post {
             lane,

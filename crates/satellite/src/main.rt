@@ -14,49 +14,17 @@ mod usage;
 
 use devices::{Network, Serving, bound, devices};
 use gather::TokioNodes;
+use program_start::{StartErr, say_start, say_usage, words};
 use sat_base::{KeeperMem, Line, NoMemory, Nodes, Service};
 use sat_devices::Console;
-use satellite_cli::{Command, LineErr, Status, read_line};
+use satellite_cli::{Command, LineErr, read_line};
 use std::alloc::Global;
-use std::env::Env;
-use std::io::ErrorKind;
+use std::io;
 use std::process::ExitCode;
 use std::sync::Wait;
 use std::thread::Threads;
-use std::{env, io};
 use store::{OpenStore, over_file};
-use usage::say_usage;
-
-// Where a port or the store's file can't be had.
-const START: u8 = 20;
-
-/// Why the top call isn't made.
-pub enum StartErr {
-    /// A port can't be bound, or the store's file can't be opened or isn't a store.
-    Start,
-    /// Memory runs out.
-    NoMemory,
-}
-
-impl From<NoMemory> for StartErr {
-    fn from(_: NoMemory) -> StartErr {
-        StartErr::NoMemory
-    }
-}
-
-// The words after the program's name. Words that are no text are read as none, which is no command either.
-fn words<R: Env + AllocGlobal>(rt: &R, alloc: Global) -> Result<Line, NoMemory> {
-    let mut line = Line::new(alloc);
-    let args = match env::args(rt) {
-        Ok(args) => args,
-        Err(e) if e.kind() == ErrorKind::OutOfMemory => return Err(NoMemory),
-        Err(_) => return Ok(line),
-    };
-    for word in args.skip(1) {
-        line.push(word.as_str())?;
-    }
-    Ok(line)
-}
+use usage::PROGRAM;
 
 // What serves where nothing is served.
 fn idle<N>(alloc: Global, network: Network<N>, service: Service) -> Serving<N>
@@ -93,10 +61,7 @@ fn run<N: Nodes + Send, R: Threads + Wait + Sync>(
     network: Network<N>,
     service: Service,
 ) -> Result<u8, StartErr> {
-    let line = match words(&rt, alloc) {
-        Ok(line) => line,
-        Err(NoMemory) => return Err(StartErr::NoMemory),
-    };
+    let line = words(&rt, alloc)?;
     match read_line(alloc, &line) {
         Ok(Command::Init { store, .. }) => {
             let open = OpenStore {
@@ -139,7 +104,7 @@ fn run<N: Nodes + Send, R: Threads + Wait + Sync>(
         Ok(_) => without_store(rt, handles, alloc, &line, network, service),
         Err(LineErr::Usage) => {
             // The status and its line stand whether that can be told or not.
-            let _ = say_usage(&rt, &line);
+            let _ = say_usage(&rt, &PROGRAM, &line);
             without_store(rt, handles, alloc, &line, network, service)
         }
         Err(LineErr::NoMemory) => Err(StartErr::NoMemory),
@@ -162,17 +127,8 @@ fn main(rt: HostRuntime) -> ExitCode {
         Ok((network, service)) => run(rt, &rt, rt.alloc(), network, service),
         Err(NoMemory) => Err(StartErr::NoMemory),
     };
-    let status = match ran {
-        Ok(status) => return ExitCode::from(status),
-        Err(StartErr::Start) => {
-            // The status stands whether its line can be printed or not.
-            let _ = rt.print("error: start\n");
-            START
-        }
-        Err(StartErr::NoMemory) => {
-            let _ = rt.print("error: memory\n");
-            Status::NoMemory.code()
-        }
-    };
-    ExitCode::from(status)
+    ExitCode::from(match ran {
+        Ok(status) => status,
+        Err(why) => say_start(&rt, why),
+    })
 }

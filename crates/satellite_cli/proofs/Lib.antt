@@ -8,3 +8,4 @@ pub mod Prints
 pub mod WorkerDevices
 pub mod Terms
 pub mod Wordless
+pub mod Idle

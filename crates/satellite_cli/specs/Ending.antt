@@ -122,3 +122,10 @@ pub record Finishes (flags : Flags) (entries status : ℕ) (old new : About) : T
   pub mid : About
   pub said : SaysEntries entries line old mid
   pub fault : EndsWith status mid new
+
+-- how many entries there were is said, and then that memory runs out
+pub record SaysWanting (entries : ℕ) (old new : About) : Type 0 where
+  pub line : LastLine
+  pub mid : About
+  pub said : SaysEntries entries line old mid
+  pub fault : Says (fault_line 9) mid new

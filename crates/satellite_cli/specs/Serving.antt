@@ -9,6 +9,7 @@ use Rattle.sat_base.specs.declared.nodes.Ask.{Ask}
 use Rattle.sat_base.specs.declared.nodes.Held.{Held}
 use Rattle.sat_base.specs.declared.rows.Row.{Row}
 use Rattle.machine_history.specs.Orders.{SettleOnce}
+use Rattle.desk_runs.specs.Numbered.{Apart}
 use Rattle.sat_book.specs.Book.{BookView, Keeps, Spell, start_of}
 use Rattle.sat_book.specs.Legal.{E, last_shown, said_of}
 use Rattle.sat_book.specs.Paid.{ClosedMonthsStay, PaysByTariff}
@@ -19,7 +20,7 @@ use Rattle.sat_book.specs.declared.opening.Opening.{Opening}
 use Rattle.sat_console.specs.Run.{Says, fault_line}
 use Rattle.sat_sessions.specs.Lanes.{PostView, post_view}
 use Rattle.sat_sessions.specs.declared.lanes.Post.{Post}
-use Rattle.sat_term.specs.Workers.{KitsView, LaneRow}
+use Rattle.sat_term.specs.Workers.{Every, KitsView, LaneRow}
 use Rattle.sat_term.specs.Term.{TermClauses, met_full}
 use Rattle.sat_term.specs.declared.term.Ends.{Ends}
 use Rattle.sat_term.specs.declared.term.Term.{Term}
@@ -33,7 +34,7 @@ use Rattle.node_rounds.specs.declared.kit.Kit.{Kit}
 use Rattle.node_rounds.specs.declared.kit.NodesView.{NodesView}
 use Rattle.node_rounds.specs.declared.kit.RoundStore.{RoundStore}
 use Rattle.node_rounds.specs.declared.upkeep.Upkeep.TheVariants as kinds
-use Rattle.satellite_cli.specs.Ending.{Finishes, SaysWhy, flags_of, has_all_sessions}
+use Rattle.satellite_cli.specs.Ending.{Finishes, SaysWanting, SaysWhy, flags_of, has_all_sessions}
 use Rattle.satellite_cli.specs.Headline.{SpeaksOfNamed}
 
 -- no row is bad, and the tables that they spell break no rule
@@ -130,12 +131,15 @@ module _ {K : Type 0} (about : K → KeeperView) where
     pub finishes : Finishes (flags_of t ends) (length t.history.items) status old new
     pub causes : Causes t clauses.rows devices.kits devices_after.kits status old new
 
-  -- a term for which there was no memory: nothing was entered
+  -- a term for which there was no memory: nothing was entered, no session and no round was made, and the workers' numbers differ
   pub record IsIdle (lanes : ℕ) (b : BookView K) (keeper : K) (t : Term) (status : ℕ) (old new : About) : Type 0 where
     pub rows : t.opening.items ≡ b.opening.rows
     pub none_yet : t.history.items ≡ []
     pub passes : length t.passes.items ≡ lanes + 3
+    pub apart : Apart t.passes.items
     pub lists : length t.lanes.items ≡ lanes
+    pub no_sessions : Every (λ lane. lane.items ≡ []) t.lanes.items
+    pub no_rounds : (t.audits.items ≡ []) × (t.repairs.items ≡ []) × (t.tallies.items ≡ [])
     pub stands : Stands b keeper t.history.items
     pub is_out_of_memory : status ≡ 9
-    pub says : Says (fault_line 9) old new
+    pub says : SaysWanting 0 old new

@@ -5,7 +5,7 @@ ghost use Rattle.sat_console.specs.Run.{code_of};
 ghost use Rattle.sat_sessions.specs.Lanes.{session_full};
 ghost use Rattle.sat_sessions.specs.Rounds.{round_full};
 ghost use Rattle.sat_term.specs.Term.{is_failed, met_full};
-ghost use Rattle.satellite_cli.specs.Ending.{EndsWith, Finishes, SaysBad, SaysEntries, SaysWhy, flags_of, has_all_sessions, is_short, is_out_of_memory, is_wordless, lacks_memory, lacks_words, term_status};
+ghost use Rattle.satellite_cli.specs.Ending.{EndsWith, Finishes, SaysBad, SaysEntries, SaysWanting, SaysWhy, flags_of, has_all_sessions, is_short, is_out_of_memory, is_wordless, lacks_memory, lacks_words, term_status};
 
 use sat_base::{Link, NoMemory};
 use sat_book::OpenErr;
@@ -181,6 +181,15 @@ fn say_status<C: Link>(console: &mut C, status: Status)
         return;
     }
     fault(console, status);
+}
+
+/// Says that a term had no entries, since memory ran out before its workers began.
+pub(crate) fn say_idle<C: Link>(alloc: Global, console: &mut C) -> Status
+    ensures status { result ≡ Status.NoMemory }
+    ensures says { SaysWanting 0 (C.about console.old) (C.about console.new) }
+{
+    say_entries(alloc, console, 0);
+    fault(console, Status::NoMemory)
 }
 
 /// Says how many entries a term had, and then its fault, if there was one.

@@ -4,32 +4,34 @@ ghost use Rattle.sat_base.specs.declared.limits.TheConstants as limits;
 ghost use Rattle.sat_book.specs.Book.{BookView, start_of};
 ghost use Rattle.sat_book.specs.Openings.{Opens};
 ghost use Rattle.sat_console.specs.Run.{code_of};
-ghost use Rattle.sat_term.specs.Workers.{IsBlank};
+ghost use Rattle.desk_runs.specs.Numbered.{Apart};
+ghost use Rattle.sat_term.specs.Workers.{Every, IsBlank};
 ghost use Rattle.satellite_cli.specs.Serving.{IsIdle, IsTerm, NotOpened, Stands, devices_view};
 
-use crate::ending::finish;
+use crate::ending::{finish, say_idle};
 use crate::opening::{Closed, Ready, open};
 use crate::worker_devices::{WorkerDevices, devices_of, tools_of, workers_of};
 use order_limits::Keys;
 use sat_base::{Clock, Gate, Keeper, Lane, Link, NoMemory, Nodes, Ticks, Words};
 use sat_book::Book;
-use sat_console::{Status, fault};
+use sat_console::Status;
 use sat_sessions::Session;
 use sat_term::{NotServed, Served, Term, TermLog, serve_term};
 use std::alloc::Global;
 use std::sync::Wait;
 use std::thread::Threads;
 
-// A number of its own for each worker.
+// A number of its own for each worker, from 1.
 fn numbered(numbers: Vec<u32>, workers: usize) -> Vec<u32>
     requires empty { numbers.items ≡ [] }
     requires room { workers ≤ vec_capacity numbers }
     requires few { workers ≤ 19 }
-    ensures { length result.items ≡ workers }
+    ensures count { length result.items ≡ workers }
+    ensures apart { Apart result.items }
 {
     let mut numbers = numbers;
     for number in 0..workers {
-        numbers.push_reserved(number as u32);
+        numbers.push_reserved(number as u32 + 1);
     }
     numbers
 }
@@ -38,7 +40,8 @@ fn numbered(numbers: Vec<u32>, workers: usize) -> Vec<u32>
 fn unserved(alloc: Global, lists: Vec<Vec<Session>>, lanes: usize) -> Vec<Vec<Session>>
     requires empty { lists.items ≡ [] }
     requires room { lanes ≤ vec_capacity lists }
-    ensures { length result.items ≡ lanes }
+    ensures count { length result.items ≡ lanes }
+    ensures empty { Every (λ lane. lane.items ≡ []) result.items }
 {
     let mut lists = lists;
     for lane in 0..lanes {
@@ -65,7 +68,10 @@ fn idle_term<K: Keeper>(alloc: Global, book: Book<K>, log: TermLog, lanes: usize
     ensures rows { result.1.opening.items ≡ book.opening.rows }
     ensures none { result.1.history.items ≡ [] }
     ensures passes { length result.1.passes.items ≡ lanes + 3 }
+    ensures apart { Apart result.1.passes.items }
     ensures lists { length result.1.lanes.items ≡ lanes }
+    ensures no_sessions { Every (λ lane. lane.items ≡ []) result.1.lanes.items }
+    ensures no_rounds { (result.1.audits.items ≡ []) × (result.1.repairs.items ≡ []) × (result.1.tallies.items ≡ []) }
     ensures stands { Stands K.about book result.0 result.1.history.items }
 {
     let (keeper, opening, history) = book.close();
@@ -113,7 +119,7 @@ fn idle<C: Link, K: Keeper, L, N, T, W, I>(
     ensures devices { result.devices ≡ devices }
 {
     let lanes = devices.posts.len();
-    let status = fault(console, Status::NoMemory);
+    let status = say_idle(alloc, console);
     let (keeper, term) = idle_term(alloc, book, log, lanes);
     Run {
         status,

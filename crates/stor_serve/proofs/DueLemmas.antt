@@ -44,7 +44,7 @@ read_as o = Ok o
 made_serial : (a b : Order) → read_as a ≡ read_as b → a.limit.serial ≡ b.limit.serial
 made_serial a b e = cc
 
-offer_serial : (key b : List ℕ) (o : Order) → offer_of key b ≡ Ok o → o.limit.serial ≡ serial_in b
+pub offer_serial : (key b : List ℕ) (o : Order) → offer_of key b ≡ Ok o → o.limit.serial ≡ serial_in b
 unfolding offer_of
 offer_serial key b o e =
     let t = test_ok (nat_eq (length b) 123) _ (no.Length (length b)) o e in

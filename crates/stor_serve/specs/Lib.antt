@@ -3,3 +3,4 @@ pub mod Performing
 pub mod Links
 pub mod Offering
 pub mod Runs
+pub mod Totals

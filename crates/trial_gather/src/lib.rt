@@ -18,3 +18,5 @@ mod patience;
 mod readings;
 #[cfg(test)]
 mod requests;
+#[cfg(test)]
+mod storage;

@@ -1,0 +1,4 @@
+pub mod Words
+pub mod Said
+pub mod Ending
+pub mod Running
